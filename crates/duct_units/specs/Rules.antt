@@ -1,0 +1,51 @@
+-- Rules over a whole input, of which the first that is broken is the refusal.
+--   Rule            a test that has to hold, and the fault where it doesn't
+--   first_broken    the fault of the first rule whose test fails, or none
+--   unless_refused  the value of an input in which no rule is broken, or else the fault
+--   Gives           a call answered what reading gives: the value, or the fault; or memory ran out
+use Rattle.std.specs.Prelude.{◌≡◌, ℕ, List, [], ◌∷◌, Bool, Option, Some, None, Result, Ok, Err, if◌then◌else◌}
+use Rattle.duct_units.specs.declared.fault.Fault.{Fault}
+use Rattle.duct_units.specs.declared.fault.Part.TheVariants.{File, Section}
+use Rattle.duct_units.specs.declared.fault.Reason.{Reason}
+use Rattle.duct_units.specs.declared.fault.ReadError.{ReadError}
+use Rattle.duct_units.specs.declared.fault.ReadError.TheVariants.{Refused, NoMemory}
+
+pub record Rule : Type 0 where
+  pub holds : Bool
+  pub fault : Fault
+
+-- a fault of the file as a whole
+abbrev pub file_fault : Reason → Fault
+file_fault reason = record { part = File; place = 0; reason = reason }
+
+-- a fault of the n-th section, counted from 1
+abbrev pub section_fault : ℕ → Reason → Fault
+section_fault n reason = record { part = Section; place = n; reason = reason }
+
+abbrev pub at_file : Bool → Reason → Rule
+at_file holds reason = record { holds = holds; fault = file_fault reason }
+
+abbrev pub at_section : ℕ → Bool → Reason → Rule
+at_section n holds reason = record { holds = holds; fault = section_fault n reason }
+
+abbrev pub first_broken : List Rule → Option Fault
+first_broken [] = None
+first_broken (rule ∷ rules) = if rule.holds then first_broken rules else Some rule.fault
+
+-- the first fault, or else the second
+abbrev pub or_else : Option Fault → Option Fault → Option Fault
+or_else None second = second
+or_else (Some fault) second = Some fault
+
+abbrev pub unless_refused : {Y : Type 0} → Option Fault → Y → Result Y Fault
+unless_refused None value = Ok value
+unless_refused (Some fault) value = Err fault
+
+-- want of memory is free; a refusal is the one of reading
+abbrev pub Fails : {Y : Type 0} → ReadError → Result Y Fault → Type 0
+Fails (Refused fault) reading = reading ≡ Err fault
+Fails NoMemory reading = Unit {0}
+
+abbrev pub Gives : {Y : Type 0} → Result Y ReadError → Result Y Fault → Type 0
+Gives (Ok value) reading = reading ≡ Ok value
+Gives (Err error) reading = Fails error reading
