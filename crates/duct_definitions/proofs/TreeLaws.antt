@@ -1,0 +1,33 @@
+-- What the rules of a tree say.
+use Rattle.std.proofs.Common.{◌≡◌, ℕ, ◌<◌, ◌≤◌, ◌+◌, List, [], ◌∷◌, ◌++◌, Option, Some, None, IfSome, Bool, true, refl, ap, ◌∙◌, sym, subst, arith}
+use Rattle.std.proofs.lemmas.Bool.{ltb-true}
+use Rattle.std.specs.Prelude.{nat_le}
+use Rattle.std.specs.List.{flat_map, list_any}
+use Rattle.duct_units.specs.declared.side.Side.TheVariants.{Supply}
+use Rattle.duct_units.specs.declared.fault.Reason.TheVariants.{Empty, TooMany, NotBefore, OtherSide, NoSupply}
+use Rattle.duct_units.specs.Rules.{Rule, first_broken, or_else, at_file, at_section}
+use Rattle.duct_definitions.specs.declared.limits.TheConstants.{MAX_SECTIONS}
+use Rattle.duct_definitions.specs.Tree.{Tree, IsTree, section_count, sections, neighbour, side, same_side, is_before, is_on_side, section_rules}
+use Rattle.duct_units.proofs.RuleLaws.{rule_holds, first_broken-append, both_none, none_broken}
+
+first_holds : (rule : Rule) (rules : List Rule) → first_broken (rule ∷ rules) ≡ None → (rule.holds ≡ true) × (first_broken rules ≡ None)
+first_holds rule rules e = rule_holds rule.holds (first_broken rules) rule.fault e
+
+pub rules_hold : (t : Tree) (s : ℕ) → IsTree t → s < section_count t → first_broken (section_rules t s) ≡ None
+rules_hold t s tree within =
+    let each : List Rule = flat_map (section_rules t) (sections t) in
+    let supply : List Rule = at_file (list_any (λ x. same_side x Supply) t.sides) NoSupply ∷ [] in
+    let few : List Rule = at_file (nat_le (section_count t) MAX_SECTIONS) TooMany ∷ (each ++ supply) in
+    let rest = (first_holds (at_file (nat_le (section_count t) MAX_SECTIONS) TooMany) (each ++ supply) (first_holds (at_file (nat_le 1 (section_count t)) Empty) few tree.rules).1).1 in
+    none_broken (section_rules t) 0 (section_count t) s (both_none (first_broken each) (first_broken supply) (sym (first_broken-append each supply) ∙ rest)).0 (omega arith) (omega arith)
+
+pub earlier : (t : Tree) (s n : ℕ) → IsTree t → s < section_count t → neighbour t s ≡ Some n → n < s
+earlier t s n tree within is =
+    let same : List Rule = at_section (s + 1) (is_on_side t (side t s) (neighbour t s)) OtherSide ∷ [] in
+    let before = (first_holds (at_section (s + 1) (is_before s (neighbour t s)) NotBefore) same (rules_hold t s tree within)).0 in
+    ltb-true n s (rw is at before)
+
+-- a neighbour has a smaller number
+pub neighbour_earlier : (t : Tree) (s : ℕ) → IsTree t → s < section_count t → IfSome (neighbour t s) (λ n. n < s)
+neighbour_earlier t s tree within =
+    elim (neighbour t s) as (λ o. neighbour t s ≡ o → IfSome o (λ n. n < s)) [ None ↦ λ e. tt | Some n ↦ λ e. earlier t s n tree within e ] refl

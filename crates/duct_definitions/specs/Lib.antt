@@ -1,0 +1,6 @@
+pub mod Tree
+pub mod Network
+pub mod Designs
+pub mod Order
+pub mod Dampers
+pub mod DesignText
