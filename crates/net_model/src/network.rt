@@ -1,0 +1,146 @@
+//! The network, and what stands where in it.
+ghost use Rattle.std.specs.Prelude.{◌≡◌, ◌<◌, length, Some, None};
+ghost use Rattle.duct_definitions.specs.Tree.{section_count, IsTree};
+ghost use Rattle.duct_definitions.specs.Network.{IsNetwork, IsFan, IsBounded, size_count, size_name, section_name, columns, pair_at, fan_at, cap};
+
+use air_tree::AirTree;
+use duct_definitions::{NetFan, Pair};
+use duct_units::{List, Name};
+use std::marker::Model;
+
+/// A tree of sections, the sizes of each, what each pair of sizes loses and costs, and fans.
+#[derive(Drop)]
+pub struct Network {
+    name: Name,
+    tree: AirTree,
+    names: List<Name>,
+    sizes: List<List<Name>>,
+    pairs: List<List<Option<Pair>>>,
+    fans: List<NetFan>,
+}
+
+impl Model for Network {
+    ghost use Rattle.duct_definitions.specs.Network.{Network as NetworkData};
+
+    ghost Value = { NetworkData };
+
+    ghost use Rattle.net_model.specs.NetworkFields.{data_of};
+    ghost use Rattle.duct_definitions.specs.Network.{IsNetwork};
+
+    ghost view = { data_of };
+
+    ghost invariant = { λ net. IsNetwork (data_of net) };
+}
+
+impl Network {
+    /// The network of a tree, with one entry for each section in each list. The pairs of a section stand by its
+    /// own size and then by its neighbour's.
+    pub fn new(
+        name: Name,
+        tree: AirTree,
+        names: List<Name>,
+        sizes: List<List<Name>>,
+        pairs: List<List<Option<Pair>>>,
+        fans: List<NetFan>,
+    ) -> Network
+        requires { IsNetwork (record { name = name; tree = tree; names = names; sizes = sizes; pairs = pairs; fans = fans }) }
+        ensures { result ≡ record { name = name; tree = tree; names = names; sizes = sizes; pairs = pairs; fans = fans } }
+    {
+        Network {
+            name,
+            tree,
+            names,
+            sizes,
+            pairs,
+            fans,
+        }
+    }
+
+    pub fn name(&self) -> Name
+        ensures { result ≡ self.now.name }
+    {
+        self.name
+    }
+
+    pub fn tree(&self) -> &AirTree
+        ensures tree { result.now ≡ self.now.tree }
+        ensures network { IsNetwork self.now }
+    {
+        &self.tree
+    }
+
+    pub fn section_name(&self, s: u32) -> Name
+        requires { s < section_count self.now.tree }
+        ensures { result ≡ section_name self.now s }
+    {
+        self.names.as_slice()[s as usize]
+    }
+
+    /// How many sizes the section can have.
+    pub fn size_count(&self, s: u32) -> u32
+        requires { s < section_count self.now.tree }
+        ensures { result ≡ size_count self.now s }
+    {
+        let sizes = &self.sizes.as_slice()[s as usize];
+        sizes.as_slice().len() as u32
+    }
+
+    pub fn size_name(&self, s: u32, k: u32) -> Name
+        requires section { s < section_count self.now.tree }
+        requires size { k < size_count self.now s }
+        ensures { result ≡ size_name self.now s k }
+    {
+        let sizes = &self.sizes.as_slice()[s as usize];
+        sizes.as_slice()[k as usize]
+    }
+
+    pub fn fan_count(&self) -> u32
+        ensures { result ≡ length self.now.fans }
+    {
+        self.fans.as_slice().len() as u32
+    }
+
+    pub fn fan(&self, i: u32) -> NetFan
+        requires { i < length self.now.fans }
+        ensures value { result ≡ fan_at self.now i }
+        ensures bounds { IsFan result }
+    {
+        self.fans.as_slice()[i as usize]
+    }
+
+    /// How many sizes stand beside the section: its neighbour's, and 1 at the fan.
+    pub fn columns(&self, s: u32) -> u32
+        requires { s < section_count self.now.tree }
+        ensures { result ≡ columns self.now s }
+    {
+        match self.tree.neighbour(s) {
+            None => 1,
+            Some(n) => self.size_count(n),
+        }
+    }
+
+    /// What section `s` loses and costs in its size `k` beside size `g` of its neighbour, 0 at the fan; None where
+    /// the two can't be joined.
+    pub fn pair(&self, s: u32, k: u32, g: u32) -> Option<Pair>
+        requires section { s < section_count self.now.tree }
+        requires size { k < size_count self.now s }
+        requires beside { g < columns self.now s }
+        ensures value { result ≡ pair_at self.now s k g }
+        ensures bounds { IsBounded result }
+    {
+        let at = k as usize * self.columns(s) as usize + g as usize;
+        let pairs = &self.pairs.as_slice()[s as usize];
+        pairs.as_slice()[at]
+    }
+
+    /// The greatest fan pressure, dPa; 0 without fans.
+    pub fn cap(&self) -> u64
+        ensures { result ≡ cap self.now }
+    {
+        let mut most = 0;
+        for fan in self.fans.as_slice() {
+            most = most.max(fan.pressure);
+        }
+        most
+    }
+}
