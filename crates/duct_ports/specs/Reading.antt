@@ -1,0 +1,28 @@
+-- What a source of files tells of the bytes that its names hold, and what was taken of them.
+use Rattle.std.specs.Prelude.{◌≡◌, ℕ, ◌<◌, List, length, Option, Some, IfSome}
+use Rattle.std.specs.Option.{option_map}
+use Rattle.std.specs.Io.KnownBytes.{Consumes}
+
+-- the bytes that each name holds
+abbrev pub Contents : Type 0
+Contents = List ℕ → List ℕ
+
+-- where the bytes are told, the name holds these
+abbrev pub Holds : Option Contents → List ℕ → List ℕ → Type 0
+Holds held name bytes = IfSome held (λ contents. bytes ≡ contents name)
+
+-- where the bytes are told, the name holds more than so many
+abbrev pub HoldsMoreThan : ℕ → Option Contents → List ℕ → Type 0
+HoldsMoreThan limit held name = IfSome held (λ contents. limit < length (contents name))
+
+-- where the bytes are told, those left are all that the name holds
+abbrev pub IsBegun : Option Contents → List ℕ → Option (List ℕ) → Type 0
+IsBegun held name left = IfSome held (λ contents. left ≡ Some (contents name))
+
+-- the bytes that the name holds, where they are told
+abbrev pub bytes_of : Option Contents → List ℕ → Option (List ℕ)
+bytes_of held name = option_map (λ contents. contents name) held
+
+-- more than so many bytes were taken from the front of those that were left
+abbrev pub TakesMoreThan : ℕ → Option (List ℕ) → Option (List ℕ) → Type 0
+TakesMoreThan limit old new = (taken : List ℕ) × (limit < length taken) × Consumes old new taken
