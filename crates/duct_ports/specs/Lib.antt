@@ -1,3 +1,6 @@
 pub mod Faults
 pub mod Reading
 pub mod Writing
+pub mod Held
+pub mod OpenedPlace
+pub mod Memory
