@@ -48,5 +48,5 @@ reads_more files i at n left moved after is front within =
     let whole : length moved ≡ n = ap length front ∙ length-take-le n left within in
     let head : take n (moved ++ after) ≡ take n left = take_at moved after n whole ∙ front in
     let tail : drop n left ≡ bytes_from files (i, at + n) =
-      ap (drop n) is ∙ drop-drop n at (option_map_or (λ file. file.bytes) (slice_get files i) []) in
+    ap (drop n) is ∙ drop-drop n at (option_map_or (λ file. file.bytes) (slice_get files i) []) in
     sym (take-append-drop n left) ∙ ap (λ bytes. take n left ++ bytes) tail ∙ ap (λ bytes. bytes ++ bytes_from files (i, at + n)) (sym head)

@@ -4,3 +4,4 @@ pub mod Writing
 pub mod Held
 pub mod OpenedPlace
 pub mod Memory
+pub mod SinkFields

@@ -1,5 +1,5 @@
 -- Files and a sink in memory: which of their calls fail, and what the others give.
-use Rattle.std.specs.Prelude.{ℕ, ◌+◌, ◌-◌, ◌^◌, ◌==◌, ◌&&◌, List, Bool, not, min, is_some, if◌then◌else◌}
+use Rattle.std.specs.Prelude.{ℕ, ◌+◌, ◌-◌, ◌^◌, ◌==◌, ◌&&◌, List, [], length, Bool, not, nat_lt, min, is_some, if◌then◌else◌}
 use Rattle.std.specs.List.{list_any}
 use Rattle.duct_ports.specs.Held.{Opened, is_held}
 
@@ -49,3 +49,16 @@ pub record SinkInMemory : Type 0 where
   pub most : ℕ
   pub calls : Numbered
   pub faults : ℕ
+
+-- nothing was taken, no call was made
+abbrev pub empty_sink : ℕ → ℕ → List ℕ → SinkInMemory
+empty_sink room most fails =
+    record { taken = []; room = room; most = most; calls = record { fails = fails; made = 0 }; faults = 0 }
+
+-- there is room, and the number of the next write isn't one that fails
+abbrev pub can_write : SinkInMemory → Bool
+can_write sink = nat_lt (length sink.taken) sink.room && not (next_fails sink.calls)
+
+-- the least of the most at once, the length of the piece and the room left
+abbrev pub count_taken : SinkInMemory → List ℕ → ℕ
+count_taken sink piece = min sink.most (min (length piece) (sink.room - length sink.taken))

@@ -34,6 +34,9 @@ impl Calls {
     {
         let number = self.made.saturating_add(1);
         self.made = number;
-        self.fails.as_slice().iter().any(|fails| u64::from(*fails) == number)
+        self.fails
+            .as_slice()
+            .iter()
+            .any(|fails| u64::from(*fails) == number)
     }
 }

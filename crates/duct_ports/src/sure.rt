@@ -1,0 +1,89 @@
+//! Files and a sink that never fail, and whose count of faults is the constant 0.
+ghost use Rattle.std.specs.Prelude.{◌≡◌, ◌<◌, ◌≤◌, ◌++◌, [], ◌∷◌, refl, Some, None, false, length, take, min, is_some, is_ok, IfOk, OnOk, OnErr};
+ghost use Rattle.std.specs.Io.KnownBytes.{Consumes};
+
+use crate::asked::Asked;
+use crate::files::{FileFault, Files};
+use crate::held::{HeldFile, HeldFiles};
+use crate::sink::{Sink, SinkFault};
+use duct_units::List;
+
+/// Files in memory. A name that isn't held reads as empty.
+#[derive(Drop)]
+pub struct SureFiles<'w> {
+    held: HeldFiles,
+    asked: Asked<'w>,
+}
+
+impl<'w> SureFiles<'w> {
+    ghost use Rattle.duct_ports.specs.Held.{contents_of};
+
+    pub fn new(files: List<HeldFile>) -> SureFiles<'w>
+        ensures names { ⟦<SureFiles<'w> as Files<'w>>⟧.asked result ≡ [] }
+        ensures held { ⟦<SureFiles<'w> as Files<'w>>⟧.held result ≡ Some (contents_of files) }
+    {
+        SureFiles {
+            held: HeldFiles::new(files),
+            asked: Asked::new(),
+        }
+    }
+}
+
+impl<'w> Files<'w> for SureFiles<'w> {
+    ghost use Rattle.duct_ports.specs.Held.{contents_of, rest_of, rest_of-none};
+
+    ghost asked = { λ files. files.asked };
+
+    ghost held = { λ files. Some (contents_of files.held.files) };
+
+    ghost left = { λ files. Some (rest_of files.held.left) };
+
+    ghost started = { λ files. is_some files.held.left };
+
+    ghost fault_count = { λ _. 0 };
+
+    ghost tells = { λ _. refl };
+
+    ghost nothing_left = { λ files. rest_of-none files.held.left };
+
+    fn start(&mut self, name: &'w str) -> Result<(), FileFault> {
+        self.asked.add(name);
+        let _is_held = self.held.start(name.as_bytes());
+        Ok(())
+    }
+
+    fn read(&mut self, buf: &mut [u8]) -> Result<usize, FileFault> {
+        Ok(self.held.read(buf))
+    }
+
+    fn faults(&self) -> u64 {
+        0
+    }
+}
+
+/// Takes every piece whole, and keeps nothing.
+#[derive(Debug, Drop)]
+pub struct SureSink;
+
+impl SureSink {
+    pub fn new() -> SureSink {
+        SureSink
+    }
+}
+
+impl Sink for SureSink {
+    ghost taken = { λ _. None };
+
+    ghost fault_count = { λ _. 0 };
+
+    fn write(&mut self, piece: &[u8]) -> Result<usize, SinkFault>
+        requires { 0 < length piece.now }
+        ensures { result ≡ Ok (length piece.now) }
+    {
+        Ok(piece.len())
+    }
+
+    fn faults(&self) -> u64 {
+        0
+    }
+}
