@@ -1,5 +1,5 @@
 -- A sink in memory, from its fields. All its room is taken when it is made, so that a write takes none.
-use Rattle.std.specs.Prelude.{ℕ, ◌≤◌, vec_len, vec_capacity}
+use Rattle.std.specs.Prelude.{◌≤◌, vec_len, vec_capacity}
 use Rattle.duct_ports.specs.declared.memory_sink.MemorySink.TheInside.{Inside}
 use Rattle.duct_ports.specs.Memory.{SinkInMemory}
 

@@ -167,17 +167,19 @@ fn sure_files_and_a_sure_sink_never_fail(rt: HostRuntime) -> Result<(), Fail> {
 #[test]
 fn a_real_file_is_read_whole_and_what_is_no_file_is_a_fault(rt: HostRuntime) -> Result<(), Fail> {
     fs::write(&rt, "whole.txt", "two\nlines\n")?;
-    let mut files = DiskFiles::new(&rt);
-    let bytes = read_all(rt.alloc(), &mut files, "whole.txt")?;
-    fs::remove_file(&rt, "whole.txt")?;
-    assert_eq!(rt; bytes.as_slice(), b"two\nlines\n".as_slice());
-    assert_eq!(rt; files.faults(), 0);
-    // A path that leads nowhere, and a folder.
-    for (name, faults) in [("absent.txt", 1u64), (".", 2)] {
+    // A file, a path that leads nowhere, and a folder.
+    for (name, bytes, error, faults) in [
+        ("whole.txt", "two\nlines\n", "", 0u64),
+        ("absent.txt", "", "fault", 1),
+        (".", "", "fault", 1),
+    ] {
+        let mut files = DiskFiles::new(&rt);
         let answer = read_all(rt.alloc(), &mut files, name);
-        assert_eq!(rt; error_of(&answer), "fault", "{name}");
+        assert_eq!(rt; bytes_of(&answer), bytes.as_bytes(), "{name}");
+        assert_eq!(rt; error_of(&answer), error, "{name}");
         assert_eq!(rt; files.faults(), faults, "{name}");
     }
+    fs::remove_file(&rt, "whole.txt")?;
     Ok(())
 }
 
