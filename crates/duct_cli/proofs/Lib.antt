@@ -1,0 +1,3 @@
+pub mod SingleLaws
+pub mod RunLaws
+pub mod AnswerLaws

@@ -1,0 +1,7 @@
+pub mod Words
+pub mod RefusalText
+pub mod SingleNetwork
+pub mod NetworkFile
+pub mod Answer
+pub mod Reply
+pub mod Run

@@ -1,0 +1,31 @@
+-- What a command replies before anything is written.
+use Rattle.std.specs.Prelude.{◌≡◌, ◌≢◌, ℕ, ◌<◌, List, Option, Some, None, IfSome, MatchOption}
+use Rattle.duct_ports.specs.Reading.{Contents}
+use Rattle.duct_cli.specs.declared.words.Command.{Command as Asked}
+use Rattle.duct_cli.specs.declared.words.Command.TheVariants.{Pick}
+use Rattle.duct_cli.specs.declared.reply.Reply.{Reply}
+use Rattle.duct_cli.specs.declared.reply.Reply.TheVariants as reply
+use Rattle.duct_cli.specs.Answer.{AnswersCommand}
+use Rattle.duct_cli.specs.Words.{Command, pick, command_of}
+
+-- the command, wherever its words lie in memory
+abbrev pub command_seen : Asked → Command
+command_seen (Pick network) = pick network.now
+
+-- the answer of a command, with status 0, 1 or 3
+pub record IsAnswered (command : Command) (held : Option Contents) (status : ℕ) (text : List ℕ) : Type 0 where
+  pub status_below : status < 4
+  pub status_other : status ≢ 2
+  pub answer : IfSome held (λ contents. AnswersCommand contents command status text)
+
+-- a fault of the files where there may be one, the answer, or want of memory
+abbrev pub IsCommandReply : Command → Option Contents → Type 0 → Reply → Type 0
+IsCommandReply command held MayFault reply.RefusedWords = ⊥
+IsCommandReply command held MayFault reply.ReadFault = MayFault
+IsCommandReply command held MayFault (reply.Answered a) = IsAnswered command held a.status a.text
+IsCommandReply command held MayFault reply.NoMemory = Unit {0}
+
+-- refused words are told as such, and nothing else is
+abbrev pub IsReply : List (List ℕ) → Option Contents → Type 0 → Reply → Type 0
+IsReply words held MayFault r =
+    MatchOption (command_of words) (r ≡ reply.RefusedWords) (λ command. IsCommandReply command held MayFault r)

@@ -1,0 +1,133 @@
+//! What a command replies, before anything is written.
+ghost use Rattle.std.specs.Prelude.{◌≡◌, ◌≢◌, ◌<◌, ◌≤◌, ◌++◌, [], ◌∷◌, length, map, string_bytes, IfOk, MatchResult};
+ghost use Rattle.duct_units.specs.declared.fault.Reason.TheVariants.{TooLong};
+ghost use Rattle.duct_units.specs.Rules.{file_fault};
+ghost use Rattle.duct_ports.specs.Faults.{Rose};
+ghost use Rattle.duct_cli.specs.Words.{pick};
+ghost use Rattle.duct_cli.specs.Answer.{AnswersDesign, AnswersNetwork};
+ghost use Rattle.duct_cli.specs.RefusalText.{refusal_line};
+ghost use Rattle.duct_cli.specs.Reply.{IsReply, IsCommandReply};
+ghost use Rattle.duct_cli.specs.Run.{AsksFor};
+ghost use Rattle.duct_cli.specs.SingleNetwork.{IsSingle};
+
+use crate::network_text::read_network;
+use crate::printing::{design_text, none_text};
+use crate::refusal_text::refusal_text;
+use crate::single::{is_possible, listed_single};
+use crate::words::{Command, FileKind};
+use duct_ports::{Files, TakeError, read_all};
+use duct_units::{Fault, List, NoMemory, Part, ReadError, Reason};
+use net_model::Network;
+use std::alloc::Global;
+
+/// A status and a text.
+#[derive(Drop)]
+pub struct Answer {
+    pub status: u8,
+    pub text: List<u8>,
+}
+
+/// What is to be written.
+#[derive(Drop)]
+pub enum Reply {
+    /// The words are none of the forms.
+    RefusedWords,
+    /// A file could not be read.
+    ReadFault,
+    Answered(Answer),
+    NoMemory,
+}
+
+/// The reply to the words, from what the files hold.
+pub fn reply_to<'w, F: Files<'w>>(alloc: Global, words: &'w [String], files: &mut F) -> Reply
+    requires { F.asked files.old ≡ [] }
+    ensures reply { IsReply (map string_bytes words.now) (F.held files.old)
+        (Rose (F.fault_count files.old) (F.fault_count files.new)) result }
+    ensures names { AsksFor (map string_bytes words.now) (F.asked files.new) }
+    ensures kept { F.held files.new ≡ F.held files.old }
+{
+    match Command::of_words(words) {
+        None => Reply::RefusedWords,
+        Some(Command::Pick(network)) => pick(alloc, files, network),
+    }
+}
+
+/// The least-cost design of a network file.
+fn pick<'w, F: Files<'w>>(alloc: Global, files: &mut F, network: &'w str) -> Reply
+    requires { F.asked files.old ≡ [] }
+    ensures reply { IsCommandReply (pick network.now) (F.held files.old)
+        (Rose (F.fault_count files.old) (F.fault_count files.new)) result }
+    ensures names { F.asked files.new ≡ network.now ∷ [] }
+    ensures kept { F.held files.new ≡ F.held files.old }
+{
+    match read_all(alloc, files, network) {
+        Ok(bytes) => replied(answer_network(alloc, bytes.as_slice())),
+        Err(TakeError::TooLong) => replied(answer_too_long(alloc, FileKind::Network)),
+        Err(TakeError::Fault) => Reply::ReadFault,
+        Err(TakeError::NoMemory) => Reply::NoMemory,
+    }
+}
+
+fn replied(answer: Result<Answer, NoMemory>) -> Reply
+    ensures { MatchResult answer (λ a. result ≡ Reply.Answered a) (λ _. result ≡ Reply.NoMemory) }
+{
+    match answer {
+        Ok(answer) => Reply::Answered(answer),
+        Err(_) => Reply::NoMemory,
+    }
+}
+
+fn answer_too_long(alloc: Global, file: FileKind) -> Result<Answer, NoMemory>
+    ensures { IfOk result (λ a. (a.status ≡ 1) × (a.text ≡ refusal_line file (file_fault TooLong))) }
+{
+    refused(
+        alloc,
+        file,
+        &Fault {
+            part: Part::File,
+            place: 0,
+            reason: Reason::TooLong,
+        },
+    )
+}
+
+fn refused(alloc: Global, file: FileKind, fault: &Fault) -> Result<Answer, NoMemory>
+    ensures { IfOk result (λ a. (a.status ≡ 1) × (a.text ≡ refusal_line file fault.now)) }
+{
+    Ok(Answer {
+        status: 1,
+        text: refusal_text(alloc, file, fault)?,
+    })
+}
+
+/// The answer for the bytes of a network file.
+fn answer_network(alloc: Global, bytes: &[u8]) -> Result<Answer, NoMemory>
+    ensures answer { IfOk result (λ a. AnswersNetwork bytes.now a.status a.text) }
+    ensures status { IfOk result (λ a. (a.status < 4) × (a.status ≢ 2)) }
+{
+    match read_network(alloc, bytes) {
+        Ok(net) => answer_design(alloc, &net),
+        Err(ReadError::Refused(fault)) => refused(alloc, FileKind::Network, &fault),
+        Err(ReadError::NoMemory) => Err(NoMemory),
+    }
+}
+
+/// The best design, or none.
+fn answer_design(alloc: Global, net: &Network) -> Result<Answer, NoMemory>
+    requires { IsSingle net.now }
+    ensures answer { IfOk result (λ a. AnswersDesign net.now a.status a.text) }
+    ensures status { IfOk result (λ a. (a.status < 4) × (a.status ≢ 2)) }
+{
+    if is_possible(net) {
+        let fields = listed_single(alloc, net)?;
+        Ok(Answer {
+            status: 0,
+            text: design_text(alloc, &fields)?,
+        })
+    } else {
+        Ok(Answer {
+            status: 3,
+            text: none_text(alloc, &net.name())?,
+        })
+    }
+}
