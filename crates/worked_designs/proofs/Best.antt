@@ -1,0 +1,130 @@
+-- The best design of a small network, found by a test of each design that fits it.
+use Rattle.std.proofs.Common.{◌≡◌, ℕ, ◌+◌, ◌<◌, ◌⊎◌, inl, inr, List, [], ◌∷◌, length, map, Bool, true, false, not, refl, ap, ◌∙◌, sym, subst, arith}
+use Rattle.std.proofs.lemmas.Bool.{and_parts, and_from, or_cases, eqb-true, ltb-true, leb-true, le-leb, both_ways, not-true, cases_Bool, true_from_ne_false}
+use Rattle.std.proofs.lemmas.List.FromFn.{length-map-range_with_len, get_or-map-range_with_len}
+use Rattle.std.specs.Prelude.{◌&&◌, ◌||◌, ◌==◌, slice_index, nat_lt, nat_le, nat_eq, is_some, IsSome, IsTrue, Option, Some, None}
+use Rattle.std.specs.Cmp.Lexicographic.{pointwise, same_text}
+use Rattle.duct_units.specs.declared.side.Side.TheVariants.{Supply, Return}
+use Rattle.duct_definitions.specs.declared.design.Design.{Design}
+use Rattle.duct_definitions.specs.Tree.{section_count, sections}
+use Rattle.duct_definitions.specs.Network.{Network, size_count, fan_at}
+use Rattle.duct_definitions.specs.Designs.{Fits, Meets, pair_of, worst, cost}
+use Rattle.duct_definitions.specs.Order.{Earlier, LessOr, Before, IsBest, NoneMeets}
+use Rattle.worked_designs.proofs.Choices.{all_below, all_below-holds, all_below-from, all_choices, all_choices-holds}
+
+abbrev pub fits : Network → Design → Bool
+fits net d =
+    (nat_lt d.fan (length net.fans) && length d.sizes == section_count net.tree)
+    && all_below (section_count net.tree) (λ s. nat_lt (slice_index d.sizes s) (size_count net s))
+
+-- every pair is there, and the fan's pressure suffices
+abbrev pub suffices : Network → Design → Bool
+suffices net d =
+    all_below (section_count net.tree) (λ s. is_some (pair_of net d s))
+    && nat_le (worst net d Supply + worst net d Return) (fan_at net d.fan).pressure
+
+pub Meets-tested : (net : Network) (d : Design) → (fits net d && suffices net d) ≡ true → Meets net d
+Meets-tested net d passed =
+    let (fitting, sufficing) = and_parts (fits net d) (suffices net d) passed in
+    let (counts, each) = and_parts _ _ fitting in
+    let (fan, sizes) = and_parts _ _ counts in
+    let (pairs, pressure) = and_parts _ _ sufficing in
+    record {
+      fits = record {
+        fan = ltb-true d.fan (length net.fans) fan;
+        sizes = eqb-true (length d.sizes) (section_count net.tree) sizes;
+        each = λ s within. ltb-true (slice_index d.sizes s) (size_count net s)
+            (all_below-holds (section_count net.tree) (λ t. nat_lt (slice_index d.sizes t) (size_count net t)) each s within);
+      };
+      pairs = λ s within. all_below-holds (section_count net.tree) (λ t. is_some (pair_of net d t)) pairs s within;
+      pressure = leb-true (worst net d Supply + worst net d Return) (fan_at net d.fan).pressure pressure;
+    }
+
+-- a design that meets the rules passes the test
+pub suffices-from : (net : Network) (d : Design) → Meets net d → suffices net d ≡ true
+suffices-from net d meets =
+    and_from _ _ (all_below-from (section_count net.tree) (λ s. is_some (pair_of net d s)) meets.pairs)
+    (le-leb (worst net d Supply + worst net d Return) (fan_at net d.fan).pressure meets.pressure)
+
+-- the test of the order
+abbrev pub less_or : ℕ → ℕ → Bool → Bool
+less_or m n after = nat_lt m n || (m == n && after)
+
+abbrev pub is_earlier : List ℕ → List ℕ → Bool
+is_earlier (x ∷ xs) (y ∷ ys) = less_or x y (is_earlier xs ys)
+is_earlier xs ys = false
+
+abbrev pub is_before : Network → Design → Design → Bool
+is_before net d e =
+    less_or (cost net d) (cost net e)
+    (less_or d.fan e.fan
+    (less_or (worst net d Supply) (worst net e Supply)
+    (is_earlier d.sizes e.sizes)))
+
+LessOr-tested : (m n : ℕ) (after : Bool) (Then : Type 0) → (after ≡ true → Then) → less_or m n after ≡ true → LessOr m n Then
+LessOr-tested m n after Then holds passed =
+    elim (or_cases (nat_lt m n) (m == n && after) passed) [
+      | inl less ↦ inl (ltb-true m n less)
+      | inr both ↦ let (same, next) = and_parts (m == n) after both in inr (eqb-true m n same, holds next)
+    ]
+
+Earlier-tested : (xs ys : List ℕ) → is_earlier xs ys ≡ true → Earlier xs ys
+Earlier-tested [] ys passed = absurd (both_ways false refl passed)
+Earlier-tested (x ∷ xs) [] passed = absurd (both_ways false refl passed)
+Earlier-tested (x ∷ xs) (y ∷ ys) passed = LessOr-tested x y (is_earlier xs ys) (Earlier xs ys) (Earlier-tested xs ys) passed
+
+Before-tested : (net : Network) (d e : Design) → is_before net d e ≡ true → Before net d e
+Before-tested net d e =
+    LessOr-tested _ _ _ _ (LessOr-tested _ _ _ _ (LessOr-tested _ _ _ _ (Earlier-tested d.sizes e.sizes)))
+
+abbrev pub is_same : Design → Design → Bool
+is_same d e = d.fan == e.fan && pointwise nat_eq d.sizes e.sizes
+
+same_tested : (d e : Design) → is_same d e ≡ true → e ≡ d
+same_tested d e passed =
+    let (fan, sizes) = and_parts (d.fan == e.fan) (pointwise nat_eq d.sizes e.sizes) passed in
+    let one : d.fan ≡ e.fan = eqb-true d.fan e.fan fan in
+    let all : d.sizes ≡ e.sizes = same_text d.sizes e.sizes (sym sizes) in
+    sym (ap (λ fan. record { fan = fan; sizes = d.sizes }) one ∙ ap (λ sizes. record { fan = e.fan; sizes = sizes }) all)
+
+-- the other design does not meet the rules, or is this one, or comes later
+abbrev pub comes_first : Network → Design → Design → Bool
+comes_first net d e = not (suffices net e) || (is_same d e || is_before net d e)
+
+-- the number of sizes of each section
+abbrev pub size_counts : Network → List ℕ
+size_counts net = map (size_count net) (sections net.tree)
+
+-- the test of each design that fits the network
+abbrev pub all_designs : Network → (Design → Bool) → Bool
+all_designs net test =
+    all_below (length net.fans) (λ fan. all_choices (size_counts net) (λ sizes. test (record { fan = fan; sizes = sizes })))
+
+all_designs-holds : (net : Network) (test : Design → Bool) → all_designs net test ≡ true → (d : Design) → Fits net d → test d ≡ true
+all_designs-holds net test all d fits =
+    let count : length (size_counts net) ≡ section_count net.tree = length-map-range_with_len (size_count net) 0 (section_count net.tree) in
+    let each : (s : ℕ) → s < length (size_counts net) → slice_index d.sizes s < slice_index (size_counts net) s = λ s within.
+    let at : slice_index (size_counts net) s ≡ size_count net s = get_or-map-range_with_len (size_count net) 0 (section_count net.tree) s s 0 (omega arith) (omega arith) in
+    let below : slice_index d.sizes s < size_count net s = fits.each s (omega arith) in
+    omega arith in
+    all_choices-holds (size_counts net) (λ sizes. test (record { fan = d.fan; sizes = sizes }))
+    (all_below-holds (length net.fans) (λ fan. all_choices (size_counts net) (λ sizes. test (record { fan = fan; sizes = sizes }))) all d.fan fits.fan)
+    d.sizes (omega (arith, fits.sizes)) each
+
+pub IsBest-tested : (net : Network) (d : Design) → (fits net d && suffices net d) ≡ true → all_designs net (comes_first net d) ≡ true → IsBest net d
+IsBest-tested net d passed all = record {
+  meets = Meets-tested net d passed;
+  first = λ e meets.
+      let tested = all_designs-holds net (comes_first net d) all e meets.fits in
+      elim (or_cases (not (suffices net e)) (is_same d e || is_before net d e) tested) [
+        | inl fails ↦ absurd (both_ways (suffices net e) (not-true (suffices net e) fails) (suffices-from net e meets))
+        | inr ordered ↦ elim (or_cases (is_same d e) (is_before net d e) ordered) [
+          | inl same ↦ inl (same_tested d e same)
+          | inr before ↦ inr (Before-tested net d e before)
+        ]
+      ];
+}
+
+pub NoneMeets-tested : (net : Network) → all_designs net (λ d. not (suffices net d)) ≡ true → NoneMeets net
+NoneMeets-tested net all d meets =
+    both_ways (suffices net d) (not-true (suffices net d) (all_designs-holds net (λ e. not (suffices net e)) all d meets.fits)) (suffices-from net d meets)

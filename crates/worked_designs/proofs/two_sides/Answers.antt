@@ -1,0 +1,17 @@
+use Rattle.std.proofs.Common.{refl}
+use Rattle.std.specs.Fmt.{digits}
+use Rattle.duct_definitions.specs.DesignText.{line}
+use Rattle.worked_designs.specs.TwoSides.{network, design}
+use Rattle.worked_designs.proofs.Valid.{IsNetwork-tested}
+use Rattle.worked_designs.proofs.Best.{IsBest-tested}
+use Rattle.worked_designs.proofs.two_sides.Goals as goal
+
+pub returns-clause-valid : goal.returns-clause-valid
+returns-clause-valid c = IsNetwork-tested network refl
+
+pub returns-clause-best : goal.returns-clause-best
+returns-clause-best c = IsBest-tested network design refl refl
+
+pub returns-clause-printed : goal.returns-clause-printed
+unfolding line digits
+returns-clause-printed c = refl
