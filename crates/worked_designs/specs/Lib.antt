@@ -1,7 +1,13 @@
 pub mod Entries
 pub mod OneSection
 pub mod FanTooWeak
+pub mod NoFan
 pub mod TwoSides
-pub mod TieOfFans
+pub mod SharedPressure
 pub mod DearerSize
 pub mod MissingPair
+pub mod TieOfFans
+pub mod EarlierFan
+pub mod FirstSection
+pub mod SmallSystem
+pub mod LowVelocity

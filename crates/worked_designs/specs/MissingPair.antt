@@ -5,11 +5,13 @@ use Rattle.duct_definitions.specs.declared.design.Design.{Design}
 use Rattle.duct_definitions.specs.Network.{Network}
 use Rattle.worked_designs.specs.Entries.{pair, fan, section, network_of}
 
+-- j2 beside k2 is not there
 abbrev pub network : Network
 network = network_of (codes "duo")
     (fan (codes "f1") 60 0 ∷ [])
     (section (codes "m") Supply None (codes "k1" ∷ codes "k2" ∷ []) (pair 20 100 ∷ pair 10 110 ∷ [])
-    ∷ section (codes "a") Supply (Some 0) (codes "j1" ∷ codes "j2" ∷ []) (pair 50 10 ∷ pair 30 20 ∷ pair 30 40 ∷ None ∷ [])
+    ∷ section (codes "a") Supply (Some 0) (codes "j1" ∷ codes "j2" ∷ [])
+        (pair 50 10 ∷ pair 30 20 ∷ pair 30 40 ∷ None ∷ [])
     ∷ [])
 
 abbrev pub design : Design

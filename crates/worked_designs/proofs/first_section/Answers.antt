@@ -1,0 +1,8 @@
+use Rattle.std.proofs.Common.{refl}
+use Rattle.std.specs.Fmt.{digits}
+use Rattle.duct_definitions.specs.DesignText.{line}
+use Rattle.worked_designs.proofs.first_section.Goals as goal
+
+pub returns-clause-printed : goal.returns-clause-printed
+unfolding line digits
+returns-clause-printed c = refl

@@ -1,0 +1,17 @@
+-- One section, and no fan on offer.
+use Rattle.std.specs.Prelude.{ℕ, List, [], ◌∷◌, ◌++◌, codes, None}
+use Rattle.duct_units.specs.declared.side.Side.TheVariants.{Supply}
+use Rattle.duct_definitions.specs.Network.{Network}
+use Rattle.worked_designs.specs.Entries.{pair, fan, section, network_of}
+
+abbrev pub network : Network
+network = network_of (codes "one") []
+    (section (codes "a") Supply None (codes "k1" ∷ []) (pair 60 500 ∷ [])
+    ∷ [])
+
+abbrev pub printed : List ℕ
+printed =
+    codes "design 1\n"
+    ++ codes "project one\n"
+    ++ codes "none\n"
+    ++ codes "end\n"
