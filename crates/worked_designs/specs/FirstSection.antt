@@ -11,7 +11,7 @@ network = network_of (codes "order")
     (fan (codes "f1") 40 0 ∷ [])
     (section (codes "m") Supply None (codes "k1" ∷ codes "k2" ∷ []) (pair 10 10 ∷ pair 20 10 ∷ [])
     ∷ section (codes "a") Supply (Some 0) (codes "j1" ∷ codes "j2" ∷ [])
-        (None ∷ pair 20 5 ∷ pair 30 5 ∷ pair 20 5 ∷ [])
+    (None ∷ pair 20 5 ∷ pair 30 5 ∷ pair 20 5 ∷ [])
     ∷ [])
 
 abbrev pub design : Design

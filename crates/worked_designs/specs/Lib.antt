@@ -11,3 +11,4 @@ pub mod EarlierFan
 pub mod FirstSection
 pub mod SmallSystem
 pub mod LowVelocity
+pub mod Paths

@@ -11,7 +11,7 @@ network = network_of (codes "duo")
     (fan (codes "f1") 60 0 ∷ [])
     (section (codes "m") Supply None (codes "k1" ∷ codes "k2" ∷ []) (pair 20 100 ∷ pair 10 110 ∷ [])
     ∷ section (codes "a") Supply (Some 0) (codes "j1" ∷ codes "j2" ∷ [])
-        (pair 50 10 ∷ pair 30 20 ∷ pair 30 40 ∷ None ∷ [])
+    (pair 50 10 ∷ pair 30 20 ∷ pair 30 40 ∷ None ∷ [])
     ∷ [])
 
 abbrev pub design : Design

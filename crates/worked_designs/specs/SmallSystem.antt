@@ -15,7 +15,7 @@ network = network_of (codes "small")
     (fan (codes "F1") 400 42500 ∷ fan (codes "F2") 900 63750 ∷ [])
     (section (codes "main") Supply None round (None ∷ pair 109 30800 ∷ [])
     ∷ section (codes "left") Supply (Some 0) round
-        (pair 352 10500 ∷ pair 487 10800 ∷ pair 185 16200 ∷ pair 185 15800 ∷ [])
+    (pair 352 10500 ∷ pair 487 10800 ∷ pair 185 16200 ∷ pair 185 15800 ∷ [])
     ∷ section (codes "right") Supply (Some 0) round (None ∷ None ∷ pair 283 61200 ∷ pair 283 60800 ∷ [])
     ∷ [])
 
