@@ -3,6 +3,7 @@ use Rattle.std.proofs.Common.{◌≡◌, ℕ, ◌+◌, ◌<◌, ◌⊎◌, inl, 
 use Rattle.std.proofs.lemmas.Bool.{and_parts, and_from, or_cases, eqb-true, ltb-true, leb-true, le-leb, both_ways, not-true, cases_Bool, true_from_ne_false}
 use Rattle.std.proofs.lemmas.List.FromFn.{length-map-range_with_len, get_or-map-range_with_len}
 use Rattle.std.specs.Prelude.{◌&&◌, ◌||◌, ◌==◌, slice_index, nat_lt, nat_le, nat_eq, is_some, IsSome, IsTrue, Option, Some, None}
+use Rattle.std.specs.List.{list_all}
 use Rattle.std.specs.Cmp.Lexicographic.{pointwise, same_text}
 use Rattle.duct_units.specs.declared.side.Side.TheVariants.{Supply, Return}
 use Rattle.duct_definitions.specs.declared.design.Design.{Design}
@@ -10,7 +11,9 @@ use Rattle.duct_definitions.specs.Tree.{section_count, sections}
 use Rattle.duct_definitions.specs.Network.{Network, size_count, fan_at}
 use Rattle.duct_definitions.specs.Designs.{Fits, Meets, pair_of, worst, cost}
 use Rattle.duct_definitions.specs.Order.{Earlier, LessOr, Before, IsBest, NoneMeets}
-use Rattle.worked_designs.proofs.Choices.{all_below, all_below-holds, all_below-from, all_choices, all_choices-holds}
+use Rattle.worked_designs.proofs.Below.{all_below, all_below-holds, all_below-from}
+use Rattle.worked_designs.proofs.Among.{list_all-among}
+use Rattle.worked_designs.proofs.Listing.{designs, Among-designs}
 
 abbrev pub fits : Network → Design → Bool
 fits net d =
@@ -61,7 +64,8 @@ is_before net d e =
     (less_or (worst net d Supply) (worst net e Supply)
     (is_earlier d.sizes e.sizes)))
 
-LessOr-tested : (m n : ℕ) (after : Bool) (Then : Type 0) → (after ≡ true → Then) → less_or m n after ≡ true → LessOr m n Then
+LessOr-tested : (m n : ℕ) (after : Bool) (Then : Type 0) → (after ≡ true → Then) → less_or m n after ≡ true
+    → LessOr m n Then
 LessOr-tested m n after Then holds passed =
     elim (or_cases (nat_lt m n) (m == n && after) passed) [
       | inl less ↦ inl (ltb-true m n less)
@@ -91,31 +95,11 @@ same_tested d e passed =
 abbrev pub comes_first : Network → Design → Design → Bool
 comes_first net d e = not (suffices net e) || (is_same d e || is_before net d e)
 
--- the number of sizes of each section
-abbrev pub size_counts : Network → List ℕ
-size_counts net = map (size_count net) (sections net.tree)
-
--- the test of each design that fits the network
-abbrev pub all_designs : Network → (Design → Bool) → Bool
-all_designs net test =
-    all_below (length net.fans) (λ fan. all_choices (size_counts net) (λ sizes. test (record { fan = fan; sizes = sizes })))
-
-all_designs-holds : (net : Network) (test : Design → Bool) → all_designs net test ≡ true → (d : Design) → Fits net d → test d ≡ true
-all_designs-holds net test all d fits =
-    let count : length (size_counts net) ≡ section_count net.tree = length-map-range_with_len (size_count net) 0 (section_count net.tree) in
-    let each : (s : ℕ) → s < length (size_counts net) → slice_index d.sizes s < slice_index (size_counts net) s = λ s within.
-    let at : slice_index (size_counts net) s ≡ size_count net s = get_or-map-range_with_len (size_count net) 0 (section_count net.tree) s s 0 (omega arith) (omega arith) in
-    let below : slice_index d.sizes s < size_count net s = fits.each s (omega arith) in
-    omega arith in
-    all_choices-holds (size_counts net) (λ sizes. test (record { fan = d.fan; sizes = sizes }))
-    (all_below-holds (length net.fans) (λ fan. all_choices (size_counts net) (λ sizes. test (record { fan = fan; sizes = sizes }))) all d.fan fits.fan)
-    d.sizes (omega (arith, fits.sizes)) each
-
-pub IsBest-tested : (net : Network) (d : Design) → (fits net d && suffices net d) ≡ true → all_designs net (comes_first net d) ≡ true → IsBest net d
+pub IsBest-tested : (net : Network) (d : Design) → (fits net d && suffices net d) ≡ true → list_all (comes_first net d) (designs net) ≡ true → IsBest net d
 IsBest-tested net d passed all = record {
   meets = Meets-tested net d passed;
   first = λ e meets.
-      let tested = all_designs-holds net (comes_first net d) all e meets.fits in
+      let tested = list_all-among (comes_first net d) e (designs net) all (Among-designs net e meets.fits) in
       elim (or_cases (not (suffices net e)) (is_same d e || is_before net d e) tested) [
         | inl fails ↦ absurd (both_ways (suffices net e) (not-true (suffices net e) fails) (suffices-from net e meets))
         | inr ordered ↦ elim (or_cases (is_same d e) (is_before net d e) ordered) [
@@ -125,6 +109,6 @@ IsBest-tested net d passed all = record {
       ];
 }
 
-pub NoneMeets-tested : (net : Network) → all_designs net (λ d. not (suffices net d)) ≡ true → NoneMeets net
+pub NoneMeets-tested : (net : Network) → list_all (λ d. not (suffices net d)) (designs net) ≡ true → NoneMeets net
 NoneMeets-tested net all d meets =
-    both_ways (suffices net d) (not-true (suffices net d) (all_designs-holds net (λ e. not (suffices net e)) all d meets.fits)) (suffices-from net d meets)
+    both_ways (suffices net d) (not-true (suffices net d) (list_all-among (λ e. not (suffices net e)) d (designs net) all (Among-designs net d meets.fits))) (suffices-from net d meets)

@@ -1,7 +1,10 @@
-pub mod Choices
+pub mod Below
+pub mod Among
+pub mod Listing
 pub mod Valid
 pub mod Best
-pub mod Among
 pub mod Ways
 pub mod Beyond
 pub mod Throttled
+pub mod TotalOrder
+pub mod BestOrNone
