@@ -1,7 +1,7 @@
 -- The items of a list, under a filter, a range, and a greatest or least value.
-use Rattle.std.proofs.Common.{◌≡◌, ℕ, zero, suc, ◌+◌, ◌<◌, ◌≤◌, ◌⊎◌, inl, inr, List, [], ◌∷◌, ◌++◌, map, Bool, true, false, refl, ap, ◌∙◌, sym, subst, arith, cond, max, min}
+use Rattle.std.proofs.Common.{◌≡◌, ℕ, zero, suc, ◌+◌, ◌<◌, ◌≤◌, ◌⊎◌, inl, inr, List, [], ◌∷◌, ◌++◌, map, Bool, true, false, refl, ap, sym, subst, arith, cond, max}
 use Rattle.std.proofs.lemmas.Bool.{and_parts, or_cases, or_left, or_right, eqb-true, eq-eqb, cases_lt, cases_eq, both_ways, cases_Bool}
-use Rattle.std.specs.Prelude.{◌==◌, ◌||◌, filter, fold}
+use Rattle.std.specs.Prelude.{◌==◌, filter, fold}
 use Rattle.std.specs.List.{range_with_len, list_any, list_all, flat_map}
 use Rattle.duct_definitions.specs.Dampers.{least_of}
 
@@ -25,9 +25,9 @@ Among-filtered {X} test x (y ∷ ys) among =
     let found = Among-filtered test x ys rest in (inr found.0, found.1) in
     elim (cases_Bool (test y)) [
       | inl passes ↦ elim (rw passes at among) [
-          | inl same ↦ (inl same, subst (λ (z : X). test z ≡ true) (sym same) passes)
-          | inr rest ↦ later rest
-        ]
+        | inl same ↦ (inl same, subst (λ (z : X). test z ≡ true) (sym same) passes)
+        | inr rest ↦ later rest
+      ]
       | inr fails ↦ later (rw fails at among)
     ]
 

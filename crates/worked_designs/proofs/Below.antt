@@ -1,7 +1,7 @@
 -- A test of every number below a bound.
-use Rattle.std.proofs.Common.{◌≡◌, ℕ, zero, suc, ◌<◌, List, [], ◌∷◌, length, Bool, true, ◌&&◌, refl, inl, inr, subst, sym, arith}
+use Rattle.std.proofs.Common.{◌≡◌, ℕ, zero, suc, ◌<◌, Bool, true, ◌&&◌, refl, inl, inr, subst, sym, arith}
 use Rattle.std.proofs.lemmas.Bool.{and_parts, and_from, cases_eq}
-use Rattle.std.specs.Prelude.{slice_index, IsTrue}
+use Rattle.std.specs.Prelude.{IsTrue}
 
 abbrev pub all_below : ℕ → (ℕ → Bool) → Bool
 all_below zero test = true

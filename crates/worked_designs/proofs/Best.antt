@@ -1,15 +1,14 @@
 -- The best design of a small network, found by a test of each design that fits it.
-use Rattle.std.proofs.Common.{◌≡◌, ℕ, ◌+◌, ◌<◌, ◌⊎◌, inl, inr, List, [], ◌∷◌, length, map, Bool, true, false, not, refl, ap, ◌∙◌, sym, subst, arith}
-use Rattle.std.proofs.lemmas.Bool.{and_parts, and_from, or_cases, eqb-true, ltb-true, leb-true, le-leb, both_ways, not-true, cases_Bool, true_from_ne_false}
-use Rattle.std.proofs.lemmas.List.FromFn.{length-map-range_with_len, get_or-map-range_with_len}
-use Rattle.std.specs.Prelude.{◌&&◌, ◌||◌, ◌==◌, slice_index, nat_lt, nat_le, nat_eq, is_some, IsSome, IsTrue, Option, Some, None}
+use Rattle.std.proofs.Common.{◌≡◌, ℕ, ◌+◌, inl, inr, List, [], ◌∷◌, length, Bool, true, false, not, refl, ap, ◌∙◌, sym}
+use Rattle.std.proofs.lemmas.Bool.{and_parts, and_from, or_cases, eqb-true, ltb-true, leb-true, le-leb, both_ways, not-true}
+use Rattle.std.specs.Prelude.{◌&&◌, ◌||◌, ◌==◌, slice_index, nat_lt, nat_le, nat_eq, is_some}
 use Rattle.std.specs.List.{list_all}
 use Rattle.std.specs.Cmp.Lexicographic.{pointwise, same_text}
 use Rattle.duct_units.specs.declared.side.Side.TheVariants.{Supply, Return}
 use Rattle.duct_definitions.specs.declared.design.Design.{Design}
-use Rattle.duct_definitions.specs.Tree.{section_count, sections}
+use Rattle.duct_definitions.specs.Tree.{section_count}
 use Rattle.duct_definitions.specs.Network.{Network, size_count, fan_at}
-use Rattle.duct_definitions.specs.Designs.{Fits, Meets, pair_of, worst, cost}
+use Rattle.duct_definitions.specs.Designs.{Meets, pair_of, worst, cost}
 use Rattle.duct_definitions.specs.Order.{Earlier, LessOr, Before, IsBest, NoneMeets}
 use Rattle.worked_designs.proofs.Below.{all_below, all_below-holds, all_below-from}
 use Rattle.worked_designs.proofs.Among.{list_all-among}
@@ -95,7 +94,8 @@ same_tested d e passed =
 abbrev pub comes_first : Network → Design → Design → Bool
 comes_first net d e = not (suffices net e) || (is_same d e || is_before net d e)
 
-pub IsBest-tested : (net : Network) (d : Design) → (fits net d && suffices net d) ≡ true → list_all (comes_first net d) (designs net) ≡ true → IsBest net d
+pub IsBest-tested : (net : Network) (d : Design) → (fits net d && suffices net d) ≡ true
+    → list_all (comes_first net d) (designs net) ≡ true → IsBest net d
 IsBest-tested net d passed all = record {
   meets = Meets-tested net d passed;
   first = λ e meets.
@@ -111,4 +111,6 @@ IsBest-tested net d passed all = record {
 
 pub NoneMeets-tested : (net : Network) → list_all (λ d. not (suffices net d)) (designs net) ≡ true → NoneMeets net
 NoneMeets-tested net all d meets =
-    both_ways (suffices net d) (not-true (suffices net d) (list_all-among (λ e. not (suffices net e)) d (designs net) all (Among-designs net d meets.fits))) (suffices-from net d meets)
+    let fails : not (suffices net d) ≡ true =
+    list_all-among (λ e. not (suffices net e)) d (designs net) all (Among-designs net d meets.fits) in
+    both_ways (suffices net d) (not-true (suffices net d) fails) (suffices-from net d meets)

@@ -1,8 +1,8 @@
 -- A network has a best design, or no design of it meets the rules: one goes over the list of all designs that fit,
 -- and keeps the first of those that meet the rules.
-use Rattle.std.proofs.Common.{◌≡◌, ℕ, ◌⊎◌, inl, inr, List, [], ◌∷◌, length, true, false, refl, ◌∙◌, sym, subst, arith}
+use Rattle.std.proofs.Common.{◌≡◌, ◌⊎◌, inl, inr, List, [], ◌∷◌, length, true, ◌∙◌, sym, subst}
 use Rattle.std.proofs.lemmas.Bool.{and_from, cases_Bool, both_ways, lt-ltb, eq-eqb}
-use Rattle.std.specs.Prelude.{◌&&◌, ◌==◌, nat_lt, slice_index}
+use Rattle.std.specs.Prelude.{◌&&◌, nat_lt, slice_index}
 use Rattle.duct_definitions.specs.declared.design.Design.{Design}
 use Rattle.duct_definitions.specs.Tree.{section_count}
 use Rattle.duct_definitions.specs.Network.{Network, size_count}
@@ -17,10 +17,10 @@ use Rattle.worked_designs.proofs.TotalOrder.{before_total, before_then}
 fits-from : (net : Network) (d : Design) → Meets net d → fits net d ≡ true
 fits-from net d meets =
     and_from _ _
-      (and_from _ _ (lt-ltb d.fan (length net.fans) meets.fits.fan)
-        (eq-eqb (length d.sizes) (section_count net.tree) meets.fits.sizes))
-      (all_below-from (section_count net.tree) (λ s. nat_lt (slice_index d.sizes s) (size_count net s))
-        λ s within. lt-ltb (slice_index d.sizes s) (size_count net s) (meets.fits.each s within))
+    (and_from _ _ (lt-ltb d.fan (length net.fans) meets.fits.fan)
+    (eq-eqb (length d.sizes) (section_count net.tree) meets.fits.sizes))
+    (all_below-from (section_count net.tree) (λ s. nat_lt (slice_index d.sizes s) (size_count net s))
+    λ s within. lt-ltb (slice_index d.sizes s) (size_count net s) (meets.fits.each s within))
 
 pub Meets-decided : (net : Network) (d : Design) → Meets net d ⊎ (Meets net d → ⊥)
 Meets-decided net d =
@@ -42,29 +42,38 @@ IsFirst-more : (net : Network) (d b : Design) (ds : List Design) → Meets net d
     → (x : Design) × IsFirst net (d ∷ ds) x
 IsFirst-more net d b ds meets so_far =
     elim (before_total net d b meets.fits so_far.meets.fits) [
-      | inl same ↦ (b, record {
+      | inl same ↦ (
+        b,
+        record {
           meets = so_far.meets;
           first = λ e among meets_too. elim among [ inl here ↦ inl (here ∙ sym same) | inr later ↦ so_far.first e later meets_too ];
-        })
+        },
+      )
       | inr apart ↦ elim apart [
-          | inl before ↦ (d, record {
-              meets = meets;
-              first = λ e among meets_too. elim among [
-                | inl here ↦ inl here
-                | inr later ↦ elim (so_far.first e later meets_too) [
-                    | inl same ↦ inr (subst (Before net d) (sym same) before)
-                    | inr behind ↦ inr (before_then net d b e before behind)
-                  ]
-              ];
-            })
-          | inr behind ↦ (b, record {
-              meets = so_far.meets;
-              first = λ e among meets_too. elim among [
-                | inl here ↦ inr (subst (Before net b) (sym here) behind)
-                | inr later ↦ so_far.first e later meets_too
-              ];
-            })
-        ]
+        | inl before ↦ (
+          d,
+          record {
+            meets = meets;
+            first = λ e among meets_too. elim among [
+              | inl here ↦ inl here
+              | inr later ↦ elim (so_far.first e later meets_too) [
+                | inl same ↦ inr (subst (Before net d) (sym same) before)
+                | inr behind ↦ inr (before_then net d b e before behind)
+              ]
+            ];
+          },
+        )
+        | inr behind ↦ (
+          b,
+          record {
+            meets = so_far.meets;
+            first = λ e among meets_too. elim among [
+              | inl here ↦ inr (subst (Before net b) (sym here) behind)
+              | inr later ↦ so_far.first e later meets_too
+            ];
+          },
+        )
+      ]
     ]
 
 first_or_none : (net : Network) (ds : List Design) → FirstOrNone net ds
@@ -73,34 +82,43 @@ first_or_none net [] = inr (λ e among meets. among)
 first_or_none net (d ∷ ds) =
     elim (Meets-decided net d) [
       | inl meets ↦ elim (first_or_none net ds) [
-          | inl found ↦ inl (IsFirst-more net d found.0 ds meets found.1)
-          | inr none ↦ inl (d, record {
-              meets = meets;
-              first = λ e among meets_too. elim among [ inl here ↦ inl here | inr later ↦ absurd (none e later meets_too) ];
-            })
-        ]
+        | inl found ↦ inl (IsFirst-more net d found.0 ds meets found.1)
+        | inr none ↦ inl (
+          d,
+          record {
+            meets = meets;
+            first = λ e among meets_too. elim among [ inl here ↦ inl here | inr later ↦ absurd (none e later meets_too) ];
+          },
+        )
+      ]
       | inr fails ↦ elim (first_or_none net ds) [
-          | inl found ↦ inl (found.0, record {
-              meets = found.1.meets;
-              first = λ e among meets_too. elim among [
-                | inl here ↦ absurd (fails (subst (Meets net) here meets_too))
-                | inr later ↦ found.1.first e later meets_too
-              ];
-            })
-          | inr none ↦ inr (λ e among meets. elim among [
-              | inl here ↦ fails (subst (Meets net) here meets)
-              | inr later ↦ none e later meets
-            ])
-        ]
+        | inl found ↦ inl (
+          found.0,
+          record {
+            meets = found.1.meets;
+            first = λ e among meets_too. elim among [
+              | inl here ↦ absurd (fails (subst (Meets net) here meets_too))
+              | inr later ↦ found.1.first e later meets_too
+            ];
+          },
+        )
+        | inr none ↦ inr (λ e among meets. elim among [
+          | inl here ↦ fails (subst (Meets net) here meets)
+          | inr later ↦ none e later meets
+        ])
+      ]
     ]
 
 pub best_or_none : (net : Network) → ((d : Design) × IsBest net d) ⊎ NoneMeets net
 unfolding FirstOrNone
 best_or_none net =
     elim (first_or_none net (designs net)) [
-      | inl found ↦ inl (found.0, record {
+      | inl found ↦ inl (
+        found.0,
+        record {
           meets = found.1.meets;
           first = λ e meets. found.1.first e (Among-designs net e meets.fits) meets;
-        })
+        },
+      )
       | inr none ↦ inr (λ d meets. none d (Among-designs net d meets.fits) meets)
     ]

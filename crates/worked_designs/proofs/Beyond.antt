@@ -1,5 +1,5 @@
 -- Which leaves are beyond a section.
-use Rattle.std.proofs.Common.{◌≡◌, ℕ, suc, ◌+◌, ◌<◌, ◌⊎◌, inl, inr, List, [], ◌∷◌, length, true, Some, refl, ◌∙◌, sym, subst, arith}
+use Rattle.std.proofs.Common.{◌≡◌, ℕ, suc, ◌<◌, ◌⊎◌, inl, inr, List, [], ◌∷◌, length, true, Some, refl, ◌∙◌, sym, subst, arith}
 use Rattle.std.proofs.lemmas.Bool.{and_parts, and_from, eqb-true, eq-eqb, ltb-true}
 use Rattle.std.specs.Prelude.{◌&&◌}
 use Rattle.duct_units.specs.declared.side.Side.{Side}
@@ -13,14 +13,16 @@ among_sections : (t : Tree) (s : ℕ) → s < section_count t → Among s (secti
 among_sections t s within = Among-range 0 (section_count t) s (omega arith) (omega arith)
 
 -- of a leaf's way: within the tree, on the leaf's side
-stays : (t : Tree) (leaf s : ℕ) → IsTree t → leaf < section_count t → Among s (way t leaf) → (s < section_count t) × (side t s ≡ side t leaf)
+stays : (t : Tree) (leaf s : ℕ) → IsTree t → leaf < section_count t → Among s (way t leaf)
+    → (s < section_count t) × (side t s ≡ side t leaf)
 stays t leaf s tree within among =
     along_way t tree (λ y. (y < section_count t) × (side t y ≡ side t leaf))
     (λ y n inside is same. let before = earlier t y n tree inside is in (omega arith, neighbour_side t y n tree inside is ∙ same.1))
     (suc leaf) leaf (omega arith) within (within, refl) s among
 
 -- the neighbour of a section on the way is on the way
-pub goes_on : (t : Tree) (leaf s n : ℕ) → IsTree t → leaf < section_count t → Among s (way t leaf) → neighbour t s ≡ Some n → Among n (way t leaf)
+pub goes_on : (t : Tree) (leaf s n : ℕ) → IsTree t → leaf < section_count t → Among s (way t leaf)
+    → neighbour t s ≡ Some n → Among n (way t leaf)
 goes_on t leaf s n tree within among is =
     let held : (y : ℕ) → Among y (way t s) → Among y (way t leaf) =
     along_way t tree (λ x. (y : ℕ) → Among y (way t x) → Among y (way t leaf))
@@ -33,7 +35,8 @@ no_item x [] among none = among
 no_item x (y ∷ ys) among none = absurd (omega arith)
 
 -- a leaf is on no other section's way
-pub alone_on_way : (t : Tree) (leaf x : ℕ) → IsTree t → is_leaf t leaf ≡ true → x < section_count t → Among leaf (way t x) → leaf ≡ x
+pub alone_on_way : (t : Tree) (leaf x : ℕ) → IsTree t → is_leaf t leaf ≡ true → x < section_count t
+    → Among leaf (way t x) → leaf ≡ x
 alone_on_way t leaf x tree is within among =
     let found : (leaf ≡ x) ⊎ ((c : ℕ) × ((c < section_count t) × (neighbour t c ≡ Some leaf))) =
     along_way t tree (λ s. (s ≡ x) ⊎ ((c : ℕ) × ((c < section_count t) × (neighbour t c ≡ Some s))))
@@ -52,7 +55,8 @@ is_within t leaf is = ltb-true leaf (section_count t) (and_parts _ _ is).0
 
 pub Among-leaves : (t : Tree) (x : Side) (leaf : ℕ) → is_leaf t leaf ≡ true → side t leaf ≡ x → Among leaf (leaves t x)
 Among-leaves t x leaf is same =
-    Among-filter (λ s. same_side (side t s) x && is_leaf t s) leaf (sections t) (among_sections t leaf (is_within t leaf is))
+    Among-filter (λ s. same_side (side t s) x && is_leaf t s) leaf (sections t)
+    (among_sections t leaf (is_within t leaf is))
     (and_from _ _ (subst (λ y. same_side (side t leaf) y ≡ true) same (same_side-same (side t leaf))) is)
 
 -- a leaf beyond the section is a leaf of the section's side whose way passes the section
@@ -63,7 +67,8 @@ pub record IsBeyond (t : Tree) (s leaf : ℕ) : Type 0 where
 
 pub Among-leaves_beyond : (t : Tree) (s leaf : ℕ) → IsBeyond t s leaf → Among leaf (leaves_beyond t s)
 Among-leaves_beyond t s leaf beyond =
-    Among-filter (passes t s) leaf (leaves t (side t s)) (Among-leaves t (side t s) leaf beyond.is beyond.same) (list_any-among s (way t leaf) beyond.passed)
+    Among-filter (passes t s) leaf (leaves t (side t s)) (Among-leaves t (side t s) leaf beyond.is beyond.same)
+    (list_any-among s (way t leaf) beyond.passed)
 
 pub IsBeyond-from : (t : Tree) (s leaf : ℕ) → Among leaf (leaves_beyond t s) → IsBeyond t s leaf
 IsBeyond-from t s leaf among =

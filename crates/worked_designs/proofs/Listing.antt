@@ -1,5 +1,5 @@
 -- Every design that fits a network, in a list.
-use Rattle.std.proofs.Common.{◌≡◌, ℕ, zero, suc, ◌+◌, ◌<◌, inl, inr, List, [], ◌∷◌, length, map, refl, ap, ◌∙◌, sym, subst, arith}
+use Rattle.std.proofs.Common.{◌≡◌, ℕ, suc, ◌<◌, inl, List, [], ◌∷◌, length, map, refl, arith}
 use Rattle.std.proofs.lemmas.List.FromFn.{length-map-range_with_len, get_or-map-range_with_len}
 use Rattle.std.specs.Prelude.{slice_index}
 use Rattle.std.specs.List.{range_with_len, flat_map}
@@ -31,16 +31,20 @@ Among-choices (bound ∷ bounds) (k ∷ ks) same within =
     let first : k < bound = within 0 (omega arith) in
     let rest : (i : ℕ) → i < length bounds → slice_index ks i < slice_index bounds i = λ i below. within (suc i) (omega arith) in
     Among-flat_map (λ m. map (λ others. m ∷ others) (choices bounds)) (k ∷ ks) k (range_with_len 0 bound)
-      (Among-range 0 bound k (omega arith) (omega arith))
-      (Among-map (λ others. k ∷ others) ks (choices bounds) (Among-choices bounds ks (omega arith) rest))
+    (Among-range 0 bound k (omega arith) (omega arith))
+    (Among-map (λ others. k ∷ others) ks (choices bounds) (Among-choices bounds ks (omega arith) rest))
 
 pub Among-designs : (net : Network) (d : Design) → Fits net d → Among d (designs net)
 Among-designs net d fits =
-    let count : length (size_counts net) ≡ section_count net.tree = length-map-range_with_len (size_count net) 0 (section_count net.tree) in
+    let count : length (size_counts net) ≡ section_count net.tree =
+    length-map-range_with_len (size_count net) 0 (section_count net.tree) in
     let each : (s : ℕ) → s < length (size_counts net) → slice_index d.sizes s < slice_index (size_counts net) s = λ s within.
-      let at : slice_index (size_counts net) s ≡ size_count net s = get_or-map-range_with_len (size_count net) 0 (section_count net.tree) s s 0 (omega arith) (omega arith) in
-      let below : slice_index d.sizes s < size_count net s = fits.each s (omega arith) in
-      omega arith in
-    Among-flat_map (λ fan. map (λ sizes. record { fan = fan; sizes = sizes }) (choices (size_counts net))) d d.fan (range_with_len 0 (length net.fans))
-      (Among-range 0 (length net.fans) d.fan (omega arith) (omega (arith, fits.fan)))
-      (Among-map (λ sizes. record { fan = d.fan; sizes = sizes }) d.sizes (choices (size_counts net)) (Among-choices (size_counts net) d.sizes (omega (arith, fits.sizes)) each))
+    let at : slice_index (size_counts net) s ≡ size_count net s =
+    get_or-map-range_with_len (size_count net) 0 (section_count net.tree) s s 0 (omega arith) (omega arith) in
+    let below : slice_index d.sizes s < size_count net s = fits.each s (omega arith) in
+    omega arith in
+    Among-flat_map (λ fan. map (λ sizes. record { fan = fan; sizes = sizes }) (choices (size_counts net))) d d.fan
+    (range_with_len 0 (length net.fans))
+    (Among-range 0 (length net.fans) d.fan (omega arith) (omega (arith, fits.fan)))
+    (Among-map (λ sizes. record { fan = d.fan; sizes = sizes }) d.sizes (choices (size_counts net))
+    (Among-choices (size_counts net) d.sizes (omega (arith, fits.sizes)) each))

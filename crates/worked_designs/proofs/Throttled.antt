@@ -7,7 +7,7 @@ use Rattle.std.specs.Prelude.{sum_by, fold}
 use Rattle.duct_units.specs.declared.side.Side.{Side}
 use Rattle.duct_units.specs.declared.side.Side.TheVariants.{Supply, Return}
 use Rattle.duct_definitions.specs.declared.design.Design.{Design}
-use Rattle.duct_definitions.specs.Tree.{Tree, IsTree, section_count, neighbour, side, is_leaf, leaves, way}
+use Rattle.duct_definitions.specs.Tree.{IsTree, section_count, neighbour, side, is_leaf, leaves, way}
 use Rattle.duct_definitions.specs.Network.{Network, IsNetwork, fan_at}
 use Rattle.duct_definitions.specs.Designs.{Meets, pair_of, loss_of, path_loss, worst}
 use Rattle.duct_definitions.specs.Dampers.{head, leaves_beyond, slack, slack_beside, damper}
@@ -17,19 +17,24 @@ use Rattle.worked_designs.proofs.Among.{Among, le-max, least_of-le, least_of-rea
 use Rattle.worked_designs.proofs.Ways.{way-at_fan, way-beside, neighbour_side}
 use Rattle.worked_designs.proofs.Beyond.{IsBeyond, goes_on, alone_on_way, is_within, Among-leaves, Among-leaves_beyond, IsBeyond-from, IsBeyond-way}
 
-slack-le : (net : Network) (d : Design) (s leaf : ℕ) → IsBeyond net.tree s leaf → slack net d s ≤ head net d (side net.tree s) - path_loss net d leaf
+slack-le : (net : Network) (d : Design) (s leaf : ℕ) → IsBeyond net.tree s leaf
+    → slack net d s ≤ head net d (side net.tree s) - path_loss net d leaf
 slack-le net d s leaf beyond =
-    least_of-le (λ y. head net d (side net.tree s) - path_loss net d y) leaf (leaves_beyond net.tree s) (Among-leaves_beyond net.tree s leaf beyond)
+    least_of-le (λ y. head net d (side net.tree s) - path_loss net d y) leaf (leaves_beyond net.tree s)
+    (Among-leaves_beyond net.tree s leaf beyond)
 
 -- the slack of a section with a leaf beyond it is what one of these leaves
 slack_reached : (net : Network) (d : Design) (s leaf : ℕ) → IsBeyond net.tree s leaf
     → (y : ℕ) × (IsBeyond net.tree s y × (slack net d s ≡ head net d (side net.tree s) - path_loss net d y))
 slack_reached net d s leaf beyond =
-    let (y, (among, is)) = least_of-reached (λ y. head net d (side net.tree s) - path_loss net d y) leaf (leaves_beyond net.tree s) (Among-leaves_beyond net.tree s leaf beyond) in
+    let (y, (among, is)) =
+    least_of-reached (λ y. head net d (side net.tree s) - path_loss net d y) leaf (leaves_beyond net.tree s)
+    (Among-leaves_beyond net.tree s leaf beyond) in
     (y, (IsBeyond-from net.tree s y among, is))
 
 slack_falls : (net : Network) (d : Design) (leaf s n : ℕ) → IsTree net.tree → is_leaf net.tree leaf ≡ true
-    → Among s (way net.tree leaf) → s < section_count net.tree → neighbour net.tree s ≡ Some n → slack net d n ≤ slack net d s
+    → Among s (way net.tree leaf) → s < section_count net.tree → neighbour net.tree s ≡ Some n
+    → slack net d n ≤ slack net d s
 slack_falls net d leaf s n tree is among within next =
     let (y, (beyond, reached)) = slack_reached net d s leaf (IsBeyond-way net.tree s leaf tree is among) in
     let same = neighbour_side net.tree s n tree within next in
@@ -48,19 +53,24 @@ both_parts whole part damped rest within first second = omega arith
 
 -- the dampers from a section on a leaf's way to the fan add up to its slack
 sum_by-damper : (net : Network) (d : Design) (leaf : ℕ) → IsTree net.tree → is_leaf net.tree leaf ≡ true
-    → (k s : ℕ) → s < k → s < section_count net.tree → Among s (way net.tree leaf) → sum_by (damper net d) (way net.tree s) ≡ slack net d s
+    → (k s : ℕ) → s < k → s < section_count net.tree → Among s (way net.tree leaf)
+    → sum_by (damper net d) (way net.tree s) ≡ slack net d s
 sum_by-damper net d leaf tree is zero s small within among = absurd (omega arith)
 sum_by-damper net d leaf tree is (suc k) s small within among =
-    elim (neighbour net.tree s) as (λ o. neighbour net.tree s ≡ o → sum_by (damper net d) (way net.tree s) ≡ slack net d s) [
+    elim (neighbour net.tree s) as
+    (λ o. neighbour net.tree s ≡ o → sum_by (damper net d) (way net.tree s) ≡ slack net d s) [
       | None ↦ λ next.
           let whole : damper net d s ≡ slack net d s - 0 = ap (λ o. slack net d s - slack_beside net d o) next in
-          ap (sum_by (damper net d)) (way-at_fan net.tree s next) ∙ sum_by-cons (damper net d) s [] ∙ both_parts (slack net d s) 0 (damper net d s) 0 (omega arith) whole refl
+          ap (sum_by (damper net d)) (way-at_fan net.tree s next) ∙ sum_by-cons (damper net d) s []
+          ∙ both_parts (slack net d s) 0 (damper net d s) 0 (omega arith) whole refl
       | Some n ↦ λ next.
           let before = earlier net.tree s n tree within next in
           let part : damper net d s ≡ slack net d s - slack net d n = ap (λ o. slack net d s - slack_beside net d o) next in
-          let rest = sum_by-damper net d leaf tree is k n (omega arith) (omega arith) (goes_on net.tree leaf s n tree (is_within net.tree leaf is) among next) in
+          let rest = sum_by-damper net d leaf tree is k n (omega arith) (omega arith)
+          (goes_on net.tree leaf s n tree (is_within net.tree leaf is) among next) in
           ap (sum_by (damper net d)) (way-beside net.tree s n tree within next) ∙ sum_by-cons (damper net d) s (way net.tree n)
-          ∙ both_parts (slack net d s) (slack net d n) (damper net d s) (sum_by (damper net d) (way net.tree n)) (slack_falls net d leaf s n tree is among within next) part rest
+          ∙ both_parts (slack net d s) (slack net d n) (damper net d s) (sum_by (damper net d) (way net.tree n))
+          (slack_falls net d leaf s n tree is among within next) part rest
     ] refl
 
 slack-leaf : (net : Network) (d : Design) (leaf : ℕ) → IsTree net.tree → is_leaf net.tree leaf ≡ true
@@ -88,9 +98,11 @@ worst-le : (net : Network) (d : Design) (x : Side) → Meets net d → worst net
 worst-le net d Supply meets = let covered = meets.pressure in omega arith
 worst-le net d Return meets = omega arith
 
-path_loss-le : (net : Network) (d : Design) (x : Side) (leaf : ℕ) → Meets net d → IsLeafOf net.tree x leaf → path_loss net d leaf ≤ head net d x
+path_loss-le : (net : Network) (d : Design) (x : Side) (leaf : ℕ) → Meets net d → IsLeafOf net.tree x leaf
+    → path_loss net d leaf ≤ head net d x
 path_loss-le net d x leaf meets of_side =
-    let most : path_loss net d leaf ≤ worst net d x = le-max (path_loss net d) 0 leaf (leaves net.tree x) (Among-leaves net.tree x leaf of_side.leaf of_side.at_side) in
+    let most : path_loss net d leaf ≤ worst net d x = le-max (path_loss net d) 0 leaf (leaves net.tree x)
+    (Among-leaves net.tree x leaf of_side.leaf of_side.at_side) in
     let covered = worst-le net d x meets in
     omega arith
 
@@ -106,7 +118,8 @@ paths_take_heads net d valid meets x leaf of_side =
     let slack_is : slack net d leaf ≡ head net d x - path_loss net d leaf =
     slack-leaf net d leaf valid.tree of_side.leaf ∙ ap (λ y. head net d y - path_loss net d leaf) of_side.at_side in
     sum_by-plus loss (damper net d) (way net.tree leaf)
-    ∙ whole_again (head net d x) (path_loss net d leaf) (sum_by (damper net d) (way net.tree leaf)) (path_loss-le net d x leaf meets of_side) (dampers ∙ slack_is)
+    ∙ whole_again (head net d x) (path_loss net d leaf) (sum_by (damper net d) (way net.tree leaf))
+    (path_loss-le net d x leaf meets of_side) (dampers ∙ slack_is)
 
 pub paths_take_pressure : (net : Network) (d : Design) → IsNetwork net → Meets net d → PathsTakePressure net d
 paths_take_pressure net d valid meets supply back of_supply of_return =
@@ -119,3 +132,5 @@ supply_takes_pressure net d valid meets none leaf of_supply =
     let none_lost : worst net d Return ≡ 0 = ap (λ all. fold max 0 (map (path_loss net d) all)) none in
     let all = heads net d meets in
     paths_take_heads net d valid meets Supply leaf of_supply ∙ omega arith
+
+pub ruleset balance = (paths_take_heads, paths_take_pressure, supply_takes_pressure)

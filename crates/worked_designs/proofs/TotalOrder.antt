@@ -1,20 +1,25 @@
 -- The order of designs is total and transitive.
-use Rattle.std.proofs.Common.{◌≡◌, ℕ, ◌<◌, ◌⊎◌, inl, inr, List, [], ◌∷◌, length, refl, ap, ◌∙◌, sym, arith}
+use Rattle.std.proofs.Common.{◌≡◌, ℕ, ◌⊎◌, inl, inr, List, [], ◌∷◌, length, refl, ap, ◌∙◌, sym, arith}
 use Rattle.std.proofs.lemmas.Bool.{cases_order}
 use Rattle.duct_units.specs.declared.side.Side.TheVariants.{Supply}
 use Rattle.duct_definitions.specs.declared.design.Design.{Design}
 use Rattle.duct_definitions.specs.Network.{Network}
 use Rattle.duct_definitions.specs.Designs.{Fits, cost, worst}
+use Rattle.duct_definitions.proofs.OrderLaws.{before_once}
 use Rattle.duct_definitions.specs.Order.{Earlier, LessOr, Before}
 
 -- equal numbers leave the order to what follows
-LessOr-total : (m n : ℕ) (Same Then Back : Type 0) → (m ≡ n → Same ⊎ (Then ⊎ Back)) → Same ⊎ (LessOr m n Then ⊎ LessOr n m Back)
+LessOr-total : (m n : ℕ) (Same Then Back : Type 0) → (m ≡ n → Same ⊎ (Then ⊎ Back))
+    → Same ⊎ (LessOr m n Then ⊎ LessOr n m Back)
 LessOr-total m n Same Then Back next =
     elim (cases_order m n) [
       | inl equal ↦ elim (next equal) [
-          | inl same ↦ inl same
-          | inr apart ↦ elim apart [ inl first ↦ inr (inl (inr (equal, first))) | inr later ↦ inr (inr (inr (sym equal, later))) ]
+        | inl same ↦ inl same
+        | inr apart ↦ elim apart [
+          | inl first ↦ inr (inl (inr (equal, first)))
+          | inr later ↦ inr (inr (inr (sym equal, later)))
         ]
+      ]
       | inr apart ↦ elim apart [ inl less ↦ inr (inl (inl less)) | inr more ↦ inr (inr (inl more)) ]
     ]
 
@@ -24,23 +29,26 @@ Earlier-total [] (y ∷ ys) same = absurd (omega arith)
 Earlier-total (x ∷ xs) [] same = absurd (omega arith)
 Earlier-total (x ∷ xs) (y ∷ ys) same =
     LessOr-total x y (y ∷ ys ≡ x ∷ xs) (Earlier xs ys) (Earlier ys xs) λ equal.
-      elim (Earlier-total xs ys (omega arith)) [
-        | inl rest ↦ inl (ap (λ z. z ∷ ys) (sym equal) ∙ ap (λ zs. x ∷ zs) rest)
-        | inr apart ↦ inr apart
-      ]
+    elim (Earlier-total xs ys (omega arith)) [
+      | inl rest ↦ inl (ap (λ z. z ∷ ys) (sym equal) ∙ ap (λ zs. x ∷ zs) rest)
+      | inr apart ↦ inr apart
+    ]
 
 -- of two designs that fit one comes before the other, or they are one
-pub before_total : (net : Network) (d e : Design) → Fits net d → Fits net e → (e ≡ d) ⊎ (Before net d e ⊎ Before net e d)
+pub before_total : (net : Network) (d e : Design) → Fits net d → Fits net e
+    → (e ≡ d) ⊎ (Before net d e ⊎ Before net e d)
 before_total net d e fit other =
     LessOr-total (cost net d) (cost net e) _ _ _ λ _.
     LessOr-total d.fan e.fan _ _ _ λ fan.
     LessOr-total (worst net d Supply) (worst net e Supply) _ _ _ λ _.
-      elim (Earlier-total d.sizes e.sizes (fit.sizes ∙ sym other.sizes)) [
-        | inl sizes ↦ inl (ap (λ i. record { fan = i; sizes = e.sizes }) (sym fan) ∙ ap (λ ks. record { fan = d.fan; sizes = ks }) sizes)
-        | inr apart ↦ inr apart
-      ]
+    elim (Earlier-total d.sizes e.sizes (fit.sizes ∙ sym other.sizes)) [
+      | inl sizes ↦ inl
+          (ap (λ i. record { fan = i; sizes = e.sizes }) (sym fan) ∙ ap (λ ks. record { fan = d.fan; sizes = ks }) sizes)
+      | inr apart ↦ inr apart
+    ]
 
-LessOr-then : (l m n : ℕ) (First Second Both : Type 0) → (First → Second → Both) → LessOr l m First → LessOr m n Second → LessOr l n Both
+LessOr-then : (l m n : ℕ) (First Second Both : Type 0) → (First → Second → Both)
+    → LessOr l m First → LessOr m n Second → LessOr l n Both
 LessOr-then l m n First Second Both next (inl less) (inl more) = inl (omega arith)
 LessOr-then l m n First Second Both next (inl less) (inr same) = let e = same.0 in inl (omega arith)
 LessOr-then l m n First Second Both next (inr same) (inl more) = let e = same.0 in inl (omega arith)
@@ -56,3 +64,5 @@ Earlier-then (x ∷ xs) (y ∷ ys) (z ∷ zs) first second = LessOr-then x y z _
 pub before_then : (net : Network) (d e f : Design) → Before net d e → Before net e f → Before net d f
 before_then net d e f =
     LessOr-then _ _ _ _ _ _ (LessOr-then _ _ _ _ _ _ (LessOr-then _ _ _ _ _ _ (Earlier-then d.sizes e.sizes f.sizes)))
+
+pub ruleset order = (before_total, before_then, before_once)

@@ -1,9 +1,9 @@
 -- A network is valid where it passes a test of each of its rules.
-use Rattle.std.proofs.Common.{◌≡◌, ℕ, ◌<◌, List, [], ◌∷◌, length, map, Bool, true, false, not, refl, subst}
+use Rattle.std.proofs.Common.{◌≡◌, ℕ, List, [], ◌∷◌, length, map, Bool, true, false, not, refl, subst}
 use Rattle.std.proofs.lemmas.Bool.{and_parts, eqb-true, leb-true, both_ways, not-true}
 use Rattle.std.proofs.lemmas.Cmp.{nat_list_eq_equiv}
 use Rattle.std.proofs.lemmas.List.Elements.{All-nil, All-cons}
-use Rattle.std.specs.Prelude.{◌&&◌, ◌==◌, ◌*◌, ◌≢◌, nat_le, nat_eq, is_none, Option, Some, None, slice_get, All}
+use Rattle.std.specs.Prelude.{◌&&◌, ◌==◌, ◌*◌, nat_le, nat_eq, is_none, Option, Some, None, slice_get, All}
 use Rattle.std.specs.List.{list_all}
 use Rattle.std.specs.Cmp.Lexicographic.{pointwise}
 use Rattle.duct_units.specs.declared.fault.Fault.{Fault}
@@ -17,7 +17,8 @@ use Rattle.duct_definitions.specs.Network.{Network, AreNames, IsFan, IsBounded, 
 use Rattle.worked_designs.proofs.Below.{all_below, all_below-holds}
 
 -- each item that passes the test has the property
-All-tested : {X : Type 0} (P : X → Type 0) (test : X → Bool) → ((x : X) → test x ≡ true → P x) → (xs : List X) → list_all test xs ≡ true → All P xs
+All-tested : {X : Type 0} (P : X → Type 0) (test : X → Bool) → ((x : X) → test x ≡ true → P x)
+    → (xs : List X) → list_all test xs ≡ true → All P xs
 All-tested P test holds [] passed = All-nil P
 All-tested P test holds (x ∷ xs) passed =
     let parts = and_parts (test x) (list_all test xs) passed in
@@ -43,9 +44,10 @@ AreNames-tested names passed =
     record {
       form = All-tested (λ name. is_name name ≡ true) is_name (λ name is. is) names form;
       distinct = λ i j before within same.
+          let all : ℕ → Bool = λ l. all_below l (λ k. not (are_equal (slice_get names k) (slice_get names l))) in
           let differ : (not (are_equal (slice_get names i) (slice_get names j))) ≡ true =
           all_below-holds j (λ k. not (are_equal (slice_get names k) (slice_get names j)))
-          (all_below-holds (length names) (λ l. all_below l (λ k. not (are_equal (slice_get names k) (slice_get names l)))) distinct j within) i before in
+          (all_below-holds (length names) all distinct j within) i before in
           both_ways (are_equal (slice_get names i) (slice_get names j)) (not-true _ differ)
           (subst (λ o. are_equal (slice_get names i) o ≡ true) same (are_equal-same (slice_get names i)));
     }

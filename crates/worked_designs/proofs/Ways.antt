@@ -1,24 +1,27 @@
 -- The way of a section to the fan: it goes on by the neighbour, stays on one side, and a leaf is only at its start.
-use Rattle.std.proofs.Common.{◌≡◌, ℕ, zero, suc, ◌+◌, ◌<◌, ◌≤◌, ◌⊎◌, inl, inr, List, [], ◌∷◌, length, Bool, true, false, Option, Some, None, refl, ap, ◌∙◌, sym, subst, arith}
-use Rattle.std.proofs.lemmas.Bool.{and_parts, and_from, eqb-true, eq-eqb, cases_eq, both_ways, ltb-true}
-use Rattle.std.specs.Prelude.{◌&&◌, ◌==◌, nat_lt, IsTrue}
+use Rattle.std.proofs.Common.{◌≡◌, ℕ, zero, suc, ◌+◌, ◌<◌, inl, inr, List, [], ◌∷◌, true, false, Some, None, refl, ap, ◌∙◌, sym, subst, arith}
+use Rattle.std.proofs.lemmas.Bool.{both_ways}
 use Rattle.duct_units.specs.declared.fault.Reason.TheVariants.{NotBefore, OtherSide}
 use Rattle.duct_units.specs.declared.side.Side.{Side}
 use Rattle.duct_units.specs.declared.side.Side.TheVariants.{Supply, Return}
 use Rattle.duct_units.specs.Rules.{Rule, first_broken, at_section}
 use Rattle.duct_units.proofs.RuleLaws.{rule_holds}
-use Rattle.duct_definitions.specs.Tree.{Tree, IsTree, section_count, sections, neighbour, side, same_side, is_number, children, is_leaf, from_neighbour, way_within, way, is_before, is_on_side, section_rules}
+use Rattle.duct_definitions.specs.Tree.{Tree, IsTree, section_count, neighbour, side, same_side, from_neighbour, way_within, way, is_before, is_on_side}
 use Rattle.duct_definitions.proofs.TreeLaws.{rules_hold, earlier}
-use Rattle.worked_designs.proofs.Among.{Among, Among-filter, Among-range}
+use Rattle.worked_designs.proofs.Among.{Among}
 
 -- more room than a way needs does not change it
-way_within-same : (t : Tree) → IsTree t → (j k s : ℕ) → s < j → s < k → s < section_count t → way_within j t s ≡ way_within k t s
+way_within-same : (t : Tree) → IsTree t → (j k s : ℕ) → s < j → s < k → s < section_count t
+    → way_within j t s ≡ way_within k t s
 way_within-same t tree zero k s small less within = absurd (omega arith)
 way_within-same t tree (suc j) zero s small less within = absurd (omega arith)
 way_within-same t tree (suc j) (suc k) s small less within =
-    elim (neighbour t s) as (λ o. neighbour t s ≡ o → s ∷ from_neighbour (way_within j t) o ≡ s ∷ from_neighbour (way_within k t) o) [
+    elim (neighbour t s) as
+    (λ o. neighbour t s ≡ o → s ∷ from_neighbour (way_within j t) o ≡ s ∷ from_neighbour (way_within k t) o) [
       | None ↦ λ is. refl
-      | Some n ↦ λ is. let before = earlier t s n tree within is in ap (λ rest. s ∷ rest) (way_within-same t tree j k n (omega arith) (omega arith) (omega arith))
+      | Some n ↦ λ is.
+          let before = earlier t s n tree within is in
+          ap (λ rest. s ∷ rest) (way_within-same t tree j k n (omega arith) (omega arith) (omega arith))
     ] refl
 
 pub way-at_fan : (t : Tree) (s : ℕ) → neighbour t s ≡ None → way t s ≡ s ∷ []
@@ -43,8 +46,10 @@ same_side-same Return = refl
 pub neighbour_side : (t : Tree) (s n : ℕ) → IsTree t → s < section_count t → neighbour t s ≡ Some n → side t n ≡ side t s
 neighbour_side t s n tree within is =
     let same : List Rule = at_section (s + 1) (is_on_side t (side t s) (neighbour t s)) OtherSide ∷ [] in
-    let rest = (rule_holds (is_before s (neighbour t s)) (first_broken same) (at_section (s + 1) (is_before s (neighbour t s)) NotBefore).fault (rules_hold t s tree within)).1 in
-    let on_side = (rule_holds (is_on_side t (side t s) (neighbour t s)) None (at_section (s + 1) (is_on_side t (side t s) (neighbour t s)) OtherSide).fault rest).0 in
+    let rest = (rule_holds (is_before s (neighbour t s)) (first_broken same)
+    (at_section (s + 1) (is_before s (neighbour t s)) NotBefore).fault (rules_hold t s tree within)).1 in
+    let on_side = (rule_holds (is_on_side t (side t s) (neighbour t s)) None
+    (at_section (s + 1) (is_on_side t (side t s) (neighbour t s)) OtherSide).fault rest).0 in
     same_side-true (side t n) (side t s) (rw is at on_side)
 
 -- what holds of a section, and goes over to its neighbour, holds along the way
@@ -54,7 +59,10 @@ pub along_way : (t : Tree) → IsTree t → (P : ℕ → Type 0)
 along_way t tree P step zero x small within start s among = absurd (omega arith)
 along_way t tree P step (suc k) x small within start s among =
     elim (neighbour t x) as (λ o. neighbour t x ≡ o → P s) [
-      | None ↦ λ is. elim (subst (Among s) (way-at_fan t x is) among) [ inl same ↦ subst P (sym same) start | inr none ↦ absurd none ]
+      | None ↦ λ is. elim (subst (Among s) (way-at_fan t x is) among) [
+        | inl same ↦ subst P (sym same) start
+        | inr none ↦ absurd none
+      ]
       | Some n ↦ λ is. elim (subst (Among s) (way-beside t x n tree within is) among) [
         | inl same ↦ subst P (sym same) start
         | inr later ↦

@@ -2,7 +2,7 @@
 use Rattle.std.specs.Prelude.{ℕ, List, [], ◌∷◌, ◌++◌, codes, None}
 use Rattle.duct_units.specs.declared.side.Side.TheVariants.{Supply}
 use Rattle.duct_definitions.specs.Network.{Network}
-use Rattle.worked_designs.specs.Entries.{pair, fan, section, network_of}
+use Rattle.worked_designs.specs.Entries.{pair, section, network_of}
 
 abbrev pub network : Network
 network = network_of (codes "one") []

@@ -1,11 +1,11 @@
 -- What a path loses together with its dampers, and what it has to lose.
-use Rattle.std.specs.Prelude.{◌≡◌, ℕ, ◌+◌, List, [], sum_by, IsTrue}
+use Rattle.std.specs.Prelude.{◌≡◌, ℕ, ◌+◌, [], sum_by, IsTrue}
 use Rattle.duct_units.specs.declared.side.Side.{Side}
 use Rattle.duct_units.specs.declared.side.Side.TheVariants.{Supply, Return}
 use Rattle.duct_definitions.specs.declared.design.Design.{Design}
 use Rattle.duct_definitions.specs.Tree.{Tree, side, is_leaf, leaves, way}
-use Rattle.duct_definitions.specs.Network.{Network, IsNetwork, fan_at}
-use Rattle.duct_definitions.specs.Designs.{Meets, pair_of, loss_of}
+use Rattle.duct_definitions.specs.Network.{Network, fan_at}
+use Rattle.duct_definitions.specs.Designs.{pair_of, loss_of}
 use Rattle.duct_definitions.specs.Dampers.{head, damper}
 
 -- the section is a leaf of the side

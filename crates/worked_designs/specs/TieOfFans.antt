@@ -8,7 +8,8 @@ use Rattle.worked_designs.specs.Entries.{pair, fan, section, network_of}
 abbrev pub network : Network
 network = network_of (codes "ties")
     (fan (codes "f1") 60 0 ∷ fan (codes "f2") 45 0 ∷ [])
-    (section (codes "a") Supply None (codes "k1" ∷ codes "k2" ∷ codes "k3" ∷ []) (pair 50 10 ∷ pair 40 10 ∷ pair 40 10 ∷ [])
+    (section (codes "a") Supply None (codes "k1" ∷ codes "k2" ∷ codes "k3" ∷ [])
+    (pair 50 10 ∷ pair 40 10 ∷ pair 40 10 ∷ [])
     ∷ section (codes "b") Supply None (codes "k1" ∷ codes "k2" ∷ []) (pair 30 5 ∷ pair 10 5 ∷ [])
     ∷ [])
 

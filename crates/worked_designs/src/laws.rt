@@ -12,36 +12,18 @@ pub fn best_or_none()
 {}
 
 /// Of two designs that fit a network exactly one comes before the other, unless they are the same design.
-#[tactic(
-    auto,
-    using(
-        crate::proofs::TotalOrder::before_total,
-        crate::proofs::TotalOrder::before_then,
-        duct_definitions::proofs::OrderLaws::before_once
-    )
-)]
+#[tactic(auto, using(crate::proofs::TotalOrder::order))]
 pub fn designs_are_in_order()
-    ensures total {
-        (net : Network) (d e : Design) → Fits net d → Fits net e
-        → (e ≡ d) ⊎ (Before net d e ⊎ Before net e d)
-    }
+    ensures total { (net : Network) (d e : Design) → Fits net d → Fits net e
+        → (e ≡ d) ⊎ (Before net d e ⊎ Before net e d) }
     ensures one_way { (net : Network) (d e : Design) → Before net d e → Before net e d → ⊥ }
-    ensures transitive {
-        (net : Network) (d e f : Design) → Before net d e → Before net e f → Before net d f
-    }
+    ensures transitive { (net : Network) (d e f : Design) → Before net d e → Before net e f → Before net d f }
 {}
 
 /// In a design that meets the rules losses and dampers balance every path: on each leaf's way they add to the head of
 /// its side, on a supply and a return path together to the fan's pressure, and without a return side on each supply
 /// path alone.
-#[tactic(
-    auto,
-    using(
-        crate::proofs::Throttled::paths_take_heads,
-        crate::proofs::Throttled::paths_take_pressure,
-        crate::proofs::Throttled::supply_takes_pressure
-    )
-)]
+#[tactic(auto, using(crate::proofs::Throttled::balance))]
 pub fn dampers_balance_every_path()
     ensures heads { (net : Network) (d : Design) → IsNetwork net → Meets net d → PathsTakeHeads net d }
     ensures both { (net : Network) (d : Design) → IsNetwork net → Meets net d → PathsTakePressure net d }
