@@ -1,10 +1,1 @@
-pub mod Below
-pub mod Among
-pub mod Listing
 pub mod Valid
-pub mod Best
-pub mod Ways
-pub mod Beyond
-pub mod Throttled
-pub mod TotalOrder
-pub mod BestOrNone

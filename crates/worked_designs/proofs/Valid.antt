@@ -14,7 +14,7 @@ use Rattle.duct_definitions.specs.declared.design.NetFan.{NetFan}
 use Rattle.duct_definitions.specs.declared.limits.TheConstants.{MAX_SIZES, MAX_FANS, MAX_PRESSURE, MAX_FAN_COST, MAX_LOSS, MAX_PRICE}
 use Rattle.duct_definitions.specs.Tree.{Tree, IsTree, section_count, tree_rules}
 use Rattle.duct_definitions.specs.Network.{Network, AreNames, IsFan, IsBounded, IsSection, IsNetwork, sizes_of, size_count, pairs_of, columns}
-use Rattle.worked_designs.proofs.Below.{all_below, all_below-holds}
+use Rattle.design_laws.proofs.Below.{all_below, all_below-holds}
 
 -- each item that passes the test has the property
 All-tested : {X : Type 0} (P : X → Type 0) (test : X → Bool) → ((x : X) → test x ≡ true → P x)

@@ -11,4 +11,3 @@ pub mod EarlierFan
 pub mod FirstSection
 pub mod SmallSystem
 pub mod LowVelocity
-pub mod Paths

@@ -22,8 +22,6 @@ ghost use Rattle.worked_designs.specs.FirstSection;
 ghost use Rattle.worked_designs.specs.SmallSystem;
 ghost use Rattle.worked_designs.specs.LowVelocity;
 
-pub mod laws;
-
 /// A fan that gives just the pressure that the section loses is enough.
 pub fn one_section()
     ensures valid { IsNetwork OneSection.network }

@@ -8,11 +8,11 @@ use Rattle.duct_definitions.specs.Tree.{section_count}
 use Rattle.duct_definitions.specs.Network.{Network, size_count}
 use Rattle.duct_definitions.specs.Designs.{Meets}
 use Rattle.duct_definitions.specs.Order.{Before, IsBest, NoneMeets}
-use Rattle.worked_designs.proofs.Below.{all_below-from}
-use Rattle.worked_designs.proofs.Among.{Among}
-use Rattle.worked_designs.proofs.Listing.{designs, Among-designs}
-use Rattle.worked_designs.proofs.Best.{fits, suffices, Meets-tested, suffices-from}
-use Rattle.worked_designs.proofs.TotalOrder.{before_total, before_then}
+use Rattle.design_laws.proofs.Below.{all_below-from}
+use Rattle.design_laws.proofs.Among.{Among}
+use Rattle.design_laws.proofs.Listing.{designs, Among-designs}
+use Rattle.design_laws.proofs.Best.{fits, suffices, Meets-tested, suffices-from}
+use Rattle.design_laws.proofs.TotalOrder.{before_total, before_then}
 
 fits-from : (net : Network) (d : Design) → Meets net d → fits net d ≡ true
 fits-from net d meets =

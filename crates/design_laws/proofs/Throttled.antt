@@ -12,10 +12,10 @@ use Rattle.duct_definitions.specs.Network.{Network, IsNetwork, fan_at}
 use Rattle.duct_definitions.specs.Designs.{Meets, pair_of, loss_of, path_loss, worst}
 use Rattle.duct_definitions.specs.Dampers.{head, leaves_beyond, slack, slack_beside, damper}
 use Rattle.duct_definitions.proofs.TreeLaws.{earlier}
-use Rattle.worked_designs.specs.Paths.{IsLeafOf, throttled_loss, PathsTakeHeads, PathsTakePressure, SupplyTakesPressure}
-use Rattle.worked_designs.proofs.Among.{Among, le-max, least_of-le, least_of-reached}
-use Rattle.worked_designs.proofs.Ways.{way-at_fan, way-beside, neighbour_side}
-use Rattle.worked_designs.proofs.Beyond.{IsBeyond, goes_on, alone_on_way, is_within, Among-leaves, Among-leaves_beyond, IsBeyond-from, IsBeyond-way}
+use Rattle.design_laws.specs.Paths.{IsLeafOf, throttled_loss, PathsTakeHeads, PathsTakePressure, SupplyTakesPressure}
+use Rattle.design_laws.proofs.Among.{Among, le-max, least_of-le, least_of-reached}
+use Rattle.design_laws.proofs.Ways.{way-at_fan, way-beside, neighbour_side}
+use Rattle.design_laws.proofs.Beyond.{IsBeyond, goes_on, alone_on_way, is_within, Among-leaves, Among-leaves_beyond, IsBeyond-from, IsBeyond-way}
 
 slack-le : (net : Network) (d : Design) (s leaf : ℕ) → IsBeyond net.tree s leaf
     → slack net d s ≤ head net d (side net.tree s) - path_loss net d leaf

@@ -1,10 +1,12 @@
-//! What the definitions say of every network. Each law is the contract of a call that has nothing to do.
+//! Laws of designs: what the definitions say of every network. Each is the contract of a call that has nothing to do.
+#![tactic(auto)]
+
 ghost use Rattle.std.specs.Prelude.{◌≡◌, ◌⊎◌};
 ghost use Rattle.duct_definitions.specs.declared.design.Design.{Design};
 ghost use Rattle.duct_definitions.specs.Designs.{Fits, Meets};
 ghost use Rattle.duct_definitions.specs.Network.{Network, IsNetwork};
 ghost use Rattle.duct_definitions.specs.Order.{Before, IsBest, NoneMeets};
-ghost use Rattle.worked_designs.specs.Paths.{PathsTakeHeads, PathsTakePressure, SupplyTakesPressure};
+ghost use Rattle.design_laws.specs.Paths.{PathsTakeHeads, PathsTakePressure, SupplyTakesPressure};
 
 /// A network has a best design, or no design of it meets the rules.
 pub fn best_or_none()

@@ -10,9 +10,9 @@ use Rattle.duct_definitions.specs.Tree.{section_count}
 use Rattle.duct_definitions.specs.Network.{Network, size_count, fan_at}
 use Rattle.duct_definitions.specs.Designs.{Meets, pair_of, worst, cost}
 use Rattle.duct_definitions.specs.Order.{Earlier, LessOr, Before, IsBest, NoneMeets}
-use Rattle.worked_designs.proofs.Below.{all_below, all_below-holds, all_below-from}
-use Rattle.worked_designs.proofs.Among.{list_all-among}
-use Rattle.worked_designs.proofs.Listing.{designs, Among-designs}
+use Rattle.design_laws.proofs.Below.{all_below, all_below-holds, all_below-from}
+use Rattle.design_laws.proofs.Among.{list_all-among}
+use Rattle.design_laws.proofs.Listing.{designs, Among-designs}
 
 abbrev pub fits : Network → Design → Bool
 fits net d =

@@ -8,7 +8,7 @@ use Rattle.duct_units.specs.Rules.{Rule, first_broken, at_section}
 use Rattle.duct_units.proofs.RuleLaws.{rule_holds}
 use Rattle.duct_definitions.specs.Tree.{Tree, IsTree, section_count, neighbour, side, same_side, from_neighbour, way_within, way, is_before, is_on_side}
 use Rattle.duct_definitions.proofs.TreeLaws.{rules_hold, earlier}
-use Rattle.worked_designs.proofs.Among.{Among}
+use Rattle.design_laws.proofs.Among.{Among}
 
 -- more room than a way needs does not change it
 way_within-same : (t : Tree) → IsTree t → (j k s : ℕ) → s < j → s < k → s < section_count t

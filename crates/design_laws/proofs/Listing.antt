@@ -7,7 +7,7 @@ use Rattle.duct_definitions.specs.declared.design.Design.{Design}
 use Rattle.duct_definitions.specs.Tree.{section_count, sections}
 use Rattle.duct_definitions.specs.Network.{Network, size_count}
 use Rattle.duct_definitions.specs.Designs.{Fits}
-use Rattle.worked_designs.proofs.Among.{Among, Among-range, Among-map, Among-flat_map}
+use Rattle.design_laws.proofs.Among.{Among, Among-range, Among-map, Among-flat_map}
 
 -- the lists with a number below each of the bounds
 abbrev pub choices : List ℕ → List (List ℕ)
