@@ -1,12 +1,10 @@
 -- The answer to words and files is one.
-use Rattle.std.proofs.Common.{◌≡◌, ℕ, ◌⊎◌, inl, inr, List, Option, Some, None, Result, Ok, Err, sym, ◌∙◌, ap}
+use Rattle.std.proofs.Common.{◌≡◌, ℕ, inl, inr, List, Option, Some, None, Result, Ok, Err, sym, ◌∙◌, ap}
 use Rattle.std.specs.Prelude.{MatchOption, MatchResult}
-use Rattle.duct_units.specs.declared.fault.Fault.{Fault}
 use Rattle.duct_definitions.specs.declared.design.Design.{Design}
 use Rattle.duct_definitions.specs.Network.{Network}
 use Rattle.duct_definitions.specs.DesignText.{text, listed}
 use Rattle.duct_definitions.proofs.OrderLaws.{best_is_one}
-use Rattle.duct_cli.specs.declared.words.FileKind.{FileKind}
 use Rattle.duct_cli.specs.Words.{Command, pick, command_of, files_of}
 use Rattle.duct_cli.specs.NetworkFile.{network_of}
 use Rattle.duct_cli.specs.Answer.{Says, AnswersDesign, AnswersNetwork, AnswersFiles, AnswersCommand, first_too_long, IsAnswer}

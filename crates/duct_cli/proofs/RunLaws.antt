@@ -1,5 +1,5 @@
 -- From the reply of a command to what a failed write leaves.
-use Rattle.std.proofs.Common.{◌≡◌, ℕ, List, Option, Some, None, IfSome, inl, inr, subst, refl}
+use Rattle.std.proofs.Common.{◌≡◌, ℕ, List, Option, Some, None, IfSome, inl, subst, refl}
 use Rattle.std.specs.Prelude.{MatchOption}
 use Rattle.duct_ports.specs.Reading.{Contents}
 use Rattle.duct_ports.specs.Writing.{AppendsPart}

@@ -1,20 +1,17 @@
 -- A network of one section, one size and one fan: it is a network, and its one design is the best or none is.
-use Rattle.std.proofs.Common.{◌≡◌, ◌≢◌, ℕ, zero, suc, ◌<◌, ◌≤◌, ◌+◌, ◌-◌, List, [], ◌∷◌, length, map, Option, Some, None, IsTrue, refl, ap, sym, subst, arith, lit≤, lit<, ◌∙◌, inl}
-use Rattle.std.specs.Prelude.{max, slice_get, slice_index, unwrap_or, IsSome, All}
+use Rattle.std.proofs.Common.{◌≡◌, ℕ, zero, suc, ◌<◌, ◌≤◌, List, [], ◌∷◌, length, Option, Some, None, IsTrue, refl, ap, sym, subst, arith, lit≤, lit<, ◌∙◌, inl}
+use Rattle.std.specs.Prelude.{slice_index, IsSome}
 use Rattle.std.proofs.lemmas.List.Elements.{All-from_recursion}
 use Rattle.duct_units.specs.Name.{is_name}
-use Rattle.duct_units.specs.declared.side.Side.TheVariants.{Supply, Return}
 use Rattle.duct_definitions.specs.declared.design.Pair.{Pair}
 use Rattle.duct_definitions.specs.declared.design.NetFan.{NetFan}
 use Rattle.duct_definitions.specs.declared.design.Design.{Design}
-use Rattle.duct_definitions.specs.declared.listed.Listed.{Listed}
-use Rattle.duct_definitions.specs.Tree.{IsTree, section_count}
-use Rattle.duct_definitions.specs.Network.{Network, IsNetwork, IsSection, AreNames, IsFan, IsBounded, section_name, size_name, size_count, columns, pair_at, fan_at}
-use Rattle.duct_definitions.specs.Designs.{Fits, Meets, worst, pair_of}
+use Rattle.duct_definitions.specs.Tree.{IsTree}
+use Rattle.duct_definitions.specs.Network.{Network, IsNetwork, IsSection, AreNames, IsFan, IsBounded, section_name, size_name, size_count, pair_at, fan_at}
+use Rattle.duct_definitions.specs.Designs.{Fits, Meets, pair_of}
 use Rattle.duct_definitions.specs.Order.{IsBest, NoneMeets}
-use Rattle.duct_definitions.specs.DesignText.{listed}
 use Rattle.duct_cli.specs.declared.single.Single.{Single}
-use Rattle.duct_cli.specs.SingleNetwork.{single_tree, single_network, first_section, IsSingle, only_design}
+use Rattle.duct_cli.specs.SingleNetwork.{single_tree, single_network, IsSingle, only_design}
 
 single_is_tree : IsTree single_tree
 single_is_tree = record { sides = refl; rules = refl }
@@ -116,49 +113,12 @@ module _ (name : List ℕ) (fan : NetFan) (section size : List ℕ) where
   no_pair_none : NoneMeets (network_with None)
   no_pair_none d m = let there = (meets_only None d m).pairs 0 (lit< tt) in cc
 
-  abbrev fields_with : Pair → Listed
-  fields_with pair = record {
-    project = name;
-    fan = fan.name;
-    pressure = fan.pressure;
-    fan_cost = fan.cost;
-    supply_worst = pair.loss;
-    supply_head = fan.pressure;
-    return_worst = 0;
-    return_head = 0;
-    sections = record { name = section; size = size; loss = pair.loss; price = pair.price; damper = fan.pressure - pair.loss } ∷ [];
-    total = pair.price + fan.cost;
-  }
-
-  fields_are : (pair : Pair) → listed (network_with (Some pair)) only_design ≡ fields_with pair
-  fields_are pair =
-      let w : max 0 (0 + pair.loss) ≡ pair.loss = omega arith in
-      let p : fan.pressure - 0 ≡ fan.pressure = omega arith in
-      let d : fan.pressure - 0 - (0 + pair.loss) - 0 ≡ fan.pressure - pair.loss = omega arith in
-      let t : 0 + pair.price + fan.cost ≡ pair.price + fan.cost = omega arith in
-      rw (w, d, p, t) refl
-
 -- a single network with what its pair is known to be
 abbrev known : Network → Option Pair → Network
 known net pair = network_with net.name (fan_at net 0) (section_name net 0) (size_name net 0 0) pair
 
 is_known : (net : Network) (pair : Option Pair) → IsSingle net → pair ≡ pair_at net 0 0 0 → net ≡ known net pair
 is_known net pair single is = single ∙ ap (known net) (sym is)
-
--- what holds of every single network
-pub record SingleFacts (net : Network) : Type 0 where
-  pub one_section : section_count net.tree ≡ 1
-  pub one_size : size_count net 0 ≡ 1
-  pub one_column : columns net 0 ≡ 1
-  pub one_fan : length net.fans ≡ 1
-
-pub single_facts : (net : Network) → IsSingle net → SingleFacts net
-single_facts net single = record {
-  one_section = ap (λ n. section_count n.tree) single;
-  one_size = ap (λ n. size_count n 0) single;
-  one_column = ap (λ n. columns n 0) single;
-  one_fan = ap (λ n. length n.fans) single;
-}
 
 pub best_of : (net : Network) (pair : Pair) (fan : NetFan) → IsSingle net → Some pair ≡ pair_at net 0 0 0 → fan ≡ fan_at net 0
     → pair.loss ≤ fan.pressure → IsBest net only_design
@@ -175,18 +135,3 @@ none_of_weak net pair fan single is fan_is weak =
 pub none_of_no_pair : (net : Network) → IsSingle net → None ≡ pair_at net 0 0 0 → NoneMeets net
 none_of_no_pair net single is =
     subst NoneMeets (sym (is_known net None single is)) (no_pair_none net.name (fan_at net 0) (section_name net 0) (size_name net 0 0))
-
--- where the one design is the best, its pair is there and the fan covers its loss
-pub enough_in : (net : Network) (pair : Pair) → IsSingle net → Some pair ≡ pair_at net 0 0 0 → IsBest net only_design → pair.loss ≤ (fan_at net 0).pressure
-enough_in net pair single is best =
-    enough_of net.name (fan_at net 0) (section_name net 0) (size_name net 0 0) pair
-    (subst (λ n. Meets n only_design) (is_known net (Some pair) single is) best.meets)
-
-pub some_in : (net : Network) → IsSingle net → IsBest net only_design → None ≡ pair_at net 0 0 0 → ⊥
-some_in net single best none = none_of_no_pair net single none only_design best.meets
-
-pub fields_of : (net : Network) (pair : Pair) → IsSingle net → Some pair ≡ pair_at net 0 0 0
-    → listed net only_design ≡ fields_with net.name (fan_at net 0) (section_name net 0) (size_name net 0 0) pair
-fields_of net pair single is =
-    ap (λ n. listed n only_design) (is_known net (Some pair) single is)
-    ∙ fields_are net.name (fan_at net 0) (section_name net 0) (size_name net 0 0) pair

@@ -1,7 +1,7 @@
 -- What a network file says: for now a network of one section, one size and one fan, and every other document is refused.
-use Rattle.std.specs.Prelude.{◌≡◌, ℕ, ◌≤◌, List, [], ◌∷◌, codes, Bool, Option, Some, None, option_and_then, option_map, if◌then◌else◌, IsTrue, Result, Ok, Err}
+use Rattle.std.specs.Prelude.{ℕ, List, [], ◌∷◌, codes, Bool, Option, Some, None, option_and_then, option_map, if◌then◌else◌, Result, Ok, Err}
 use Rattle.std.specs.Str.{bytes_eq}
-use Rattle.toml.specs.Data.{Data, Members, as_array, as_table, as_integer}
+use Rattle.toml.specs.Data.{Data, Members, as_table, as_integer}
 use Rattle.duct_units.specs.declared.fault.Fault.{Fault}
 use Rattle.duct_units.specs.declared.fault.Reason.TheVariants.{Text, Unbuilt}
 use Rattle.duct_units.specs.Rules.{file_fault}

@@ -1,5 +1,5 @@
 -- What a command replies before anything is written.
-use Rattle.std.specs.Prelude.{◌≡◌, ◌≢◌, ℕ, ◌<◌, List, Option, Some, None, IfSome, MatchOption}
+use Rattle.std.specs.Prelude.{◌≡◌, ◌≢◌, ℕ, ◌<◌, List, Option, IfSome, MatchOption}
 use Rattle.duct_ports.specs.Reading.{Contents}
 use Rattle.duct_cli.specs.declared.words.Command.{Command as Asked}
 use Rattle.duct_cli.specs.declared.words.Command.TheVariants.{Pick}

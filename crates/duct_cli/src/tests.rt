@@ -134,7 +134,7 @@ fn the_first_fault_of_the_bytes_is_answered(rt: HostRuntime) -> Result<(), Fail>
 #[test]
 fn a_file_may_hold_4194304_bytes_and_no_more(rt: HostRuntime) -> Result<(), Fail> {
     let mut bytes = text_of(rt.alloc(), NETWORK)?;
-    while bytes.len() < 4_194_304 {
+    for _ in bytes.len()..4_194_304 {
         bytes.push(b'\n')?;
     }
     expect_pick(&rt, rt.alloc(), bytes.clone()?, &[], 0, DESIGN)?;

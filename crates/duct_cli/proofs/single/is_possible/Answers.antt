@@ -1,4 +1,3 @@
-use Rattle.std.proofs.Common.{sym, ◌∙◌}
 use Rattle.duct_cli.proofs.SingleLaws.{best_of, none_of_weak, none_of_no_pair}
 use Rattle.duct_cli.proofs.single.is_possible.Goals as goal
 
