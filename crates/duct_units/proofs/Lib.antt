@@ -1,2 +1,5 @@
 pub mod NameForm
 pub mod RuleLaws
+pub mod Spelling
+pub mod WholeLaws
+pub mod CeilingLaws

@@ -1,3 +1,5 @@
 pub mod Name
 pub mod NameFields
+pub mod Whole
+pub mod Ceiling
 pub mod Rules

@@ -8,9 +8,13 @@
 mod fault;
 mod list;
 mod name;
+mod number;
+mod rounding;
 mod side;
 
 pub use fault::{Fault, NoMemory, Part, ReadError, Reason};
 pub use list::List;
 pub use name::{MAX_NAME_BYTES, Name};
+pub use number::whole;
+pub use rounding::ceil_div;
 pub use side::Side;
