@@ -5,18 +5,21 @@ use Rattle.std.proofs.lemmas.Int.{ints}
 use Rattle.std.specs.Int.{div_ceil}
 use Rattle.duct_units.specs.Ceiling.{ceiling, IsCeiling}
 
+-- for n from 0 on: the quotient that is rounded up is enough, and none below it is
 above_enough : (n d : ℕ) → 0 < d → n ≤ div_ceil n d * d
 above_enough n d above = (div_ceil_times n d above).0
 
 above_least : (n d p : ℕ) → 0 < d → n ≤ p * d → div_ceil n d ≤ p
 above_least n d p above enough = grind (arith, div_ceil_times n d above)
 
+-- for n below 0: the same of the quotient that is rounded down
 below_enough : (n d : ℕ) → 0 < d → n / d * d ≤ n
 below_enough n d above = grind arith
 
 below_least : (n d p : ℕ) → 0 < d → p * d ≤ n → p ≤ n / d
 below_least n d p above enough = grind arith
 
+-- and the same of numbers with a sign
 enough_above : (n d : ℕ) → 0 < d → pos n ≤ℤ (pos (div_ceil n d) *ℤ pos d)
 enough_above n d above = omega (arith, ints, above_enough n d above)
 
@@ -48,5 +51,6 @@ ceiling_alone n d q above is =
     let one = ceiling_is n d above in
     omega (arith, ints, is.least (ceiling n d) one.enough, one.least q is.enough)
 
+-- a number that is computed as the ceiling is it
 pub is_ceiling : (n d q : ℤ) → pos 0 <ℤ d → q ≡ ceiling n d → IsCeiling n d q
 is_ceiling n d q above e = subst (IsCeiling n d) (sym e) (ceiling_is n d above)

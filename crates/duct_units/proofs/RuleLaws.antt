@@ -6,6 +6,7 @@ use Rattle.std.proofs.Math.Nat.{eq-or-lt_of_le}
 use Rattle.std.specs.List.{flat_map, range_with_len}
 use Rattle.duct_units.specs.Rules.{Rule, first_broken, or_else}
 
+-- of two lists the first list's broken rule comes first
 pub first_broken-append : (xs ys : List Rule) → first_broken (xs ++ ys) ≡ or_else (first_broken xs) (first_broken ys)
 first_broken-append [] ys = refl
 first_broken-append (x ∷ xs) ys =
@@ -33,6 +34,7 @@ pub broken_here : (f : ℕ → List Rule) (i n : ℕ) (fault : Fault) → i < n 
     → first_broken (flat_map f (range_with_len i (n - i))) ≡ Some fault
 broken_here f i n fault h some = first_broken-from f i n h ∙ ap (λ o. or_else o (first_broken (flat_map f (range_with_len (i + 1) (n - (i + 1)))))) some
 
+-- a fault is something
 none_some : (x : Fault) → ◌≡◌ {A = Option Fault} (Some x) None → ⊥
 none_some x e = cc
 

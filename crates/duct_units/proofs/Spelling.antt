@@ -125,6 +125,7 @@ number_of-minus : (ds : List ℕ) → begins_above_zero ds ≡ true → all_asci
 number_of-minus [] begins digits = cc
 number_of-minus (first ∷ rest) begins digits = number_of_is (45 ∷ first ∷ rest) begins digits
 
+-- digits with a front above `0` begin above 0
 begins_by_front : (ds : List ℕ) → all_ascii_digits ds ≡ true → 48 < get_or ds 0 0 → begins_above_zero ds ≡ true
 begins_by_front [] digits front = absurd (omega arith)
 begins_by_front (first ∷ rest) digits front = grind (arith, nat_tests)

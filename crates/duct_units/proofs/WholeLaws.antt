@@ -80,12 +80,14 @@ none_is_whole bytes low high None low_fits high_fits e =
     λ n is. none-some n (e ∙ whole_of-IsWhole bytes low high n low_fits high_fits is)
 none_is_whole bytes low high (Some n) low_fits high_fits e = tt
 
+-- a number of 64 bits lies within their bounds, and another doesn't
 within_64 : (n : ℤ) → FitsSigned w64 n → within MIN MAX (Some n) ≡ Some n
 within_64 n fits = grind (arith, ints)
 
 past_64 : (n : ℤ) → ¬ (FitsSigned w64 n) → within MIN MAX (Some n) ≡ None
 past_64 n past = grind (arith, ints)
 
+-- bytes of another form spell no number
 not_number : (bytes : List ℕ) → is_number bytes ≡ false → number_of bytes ≡ None
 not_number bytes not = ap (λ b. if b then Some (signed_digits_value 10 bytes) else None) not
 
@@ -115,6 +117,7 @@ left_of_sign first second rest true plus = omega arith
 left_of_sign first second rest false true = omega arith
 left_of_sign first second rest false false = omega arith
 
+-- bytes that begin as a number have something behind their sign
 digits_there : (bytes : List ℕ) → begins_as_number bytes ≡ true → 0 < length (without_leading_sign bytes)
 digits_there [] begins = cc
 digits_there (first ∷ []) begins = rw (unsigned_digits first [] begins) (omega arith)

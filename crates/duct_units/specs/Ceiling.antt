@@ -2,7 +2,7 @@
 use Rattle.std.specs.Prelude.{◌/◌, ℤ, pos, negsuc, suc, neg_ℤ, unsigned_abs, ◌*ℤ◌, ◌≤ℤ◌}
 use Rattle.std.specs.Int.{div_ceil}
 
--- q is the least whole number of d that is n or more
+-- q is the least whole number for which q times d is at least n
 pub record IsCeiling (n d q : ℤ) : Type 0 where
   pub enough : n ≤ℤ (q *ℤ d)
   pub least : (p : ℤ) → n ≤ℤ (p *ℤ d) → q ≤ℤ p

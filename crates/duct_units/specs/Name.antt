@@ -4,6 +4,7 @@ use Rattle.std.specs.List.{list_all}
 use Rattle.std.proofs.Common.{length-take-le}
 use Rattle.duct_units.specs.declared.name.TheConstants.{MAX_NAME_BYTES}
 
+-- the byte lies from low to high
 abbrev pub is_within : ℕ → ℕ → ℕ → Bool
 is_within low high byte = nat_le low byte && nat_le byte high
 
@@ -12,6 +13,7 @@ abbrev pub is_name_byte : ℕ → Bool
 is_name_byte byte =
     ((is_within 97 122 byte || is_within 65 90 byte) || is_within 48 57 byte) || ((byte == 95 || byte == 45) || byte == 46)
 
+-- 1 to 32 bytes, each of them one of these
 abbrev pub is_name : List ℕ → Bool
 is_name bytes = (nat_le 1 (length bytes) && nat_le (length bytes) MAX_NAME_BYTES) && list_all is_name_byte bytes
 
@@ -29,5 +31,6 @@ pub record IsHeld (bytes : List ℕ) (len : ℕ) : Type 0 where
   pub name : IsTrue (is_name (take len bytes))
   pub rest : padded (take len bytes) ≡ bytes
 
+-- a name with its zeros gives all bytes back, and has the stated length
 pub held_again : (bytes : List ℕ) (len : ℕ) → IsHeld bytes len → (padded (take len bytes) ≡ bytes) × (length (take len bytes) ≡ len)
 held_again bytes len held = (held.rest, length-take-le len bytes held.within)

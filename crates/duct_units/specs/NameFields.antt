@@ -4,9 +4,11 @@ use Rattle.std.proofs.Common.{ap, ◌∙◌}
 use Rattle.duct_units.specs.Name.{padded, IsHeld, held_again}
 use Rattle.duct_units.specs.declared.name.Name.TheInside.{Inside}
 
+-- the bytes with their zeros, and the length
 abbrev pub fields_of : List ℕ → Inside
 fields_of name = record { bytes = padded name; len = length name }
 
+-- the fields that hold a name are those of the name
 pub fields_again : (a : Inside) → IsHeld a.bytes a.len → fields_of (take a.len a.bytes) ≡ a
 fields_again a held =
     let again = held_again a.bytes a.len held in

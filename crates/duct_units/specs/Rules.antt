@@ -10,6 +10,7 @@ use Rattle.duct_units.specs.declared.fault.Reason.{Reason}
 use Rattle.duct_units.specs.declared.fault.ReadError.{ReadError}
 use Rattle.duct_units.specs.declared.fault.ReadError.TheVariants.{Refused, NoMemory}
 
+-- a test that has to hold, and the fault where it doesn't
 pub record Rule : Type 0 where
   pub holds : Bool
   pub fault : Fault
@@ -22,12 +23,15 @@ file_fault reason = record { part = File; place = 0; reason = reason }
 abbrev pub section_fault : ℕ → Reason → Fault
 section_fault n reason = record { part = Section; place = n; reason = reason }
 
+-- a rule of the file as a whole
 abbrev pub at_file : Bool → Reason → Rule
 at_file holds reason = record { holds = holds; fault = file_fault reason }
 
+-- a rule of the n-th section, counted from 1
 abbrev pub at_section : ℕ → Bool → Reason → Rule
 at_section n holds reason = record { holds = holds; fault = section_fault n reason }
 
+-- the fault of the first rule whose test fails
 abbrev pub first_broken : List Rule → Option Fault
 first_broken [] = None
 first_broken (rule ∷ rules) = if rule.holds then first_broken rules else Some rule.fault
@@ -37,6 +41,7 @@ abbrev pub or_else : Option Fault → Option Fault → Option Fault
 or_else None second = second
 or_else (Some fault) second = Some fault
 
+-- the fault, or else the value
 abbrev pub unless_refused : {Y : Type 0} → Option Fault → Y → Result Y Fault
 unless_refused None value = Ok value
 unless_refused (Some fault) value = Err fault
@@ -46,6 +51,7 @@ abbrev pub Fails : {Y : Type 0} → ReadError → Result Y Fault → Type 0
 Fails (Refused fault) reading = reading ≡ Err fault
 Fails NoMemory reading = Unit {0}
 
+-- the call answered what reading gives, or memory ran out
 abbrev pub Gives : {Y : Type 0} → Result Y ReadError → Result Y Fault → Type 0
 Gives (Ok value) reading = reading ≡ Ok value
 Gives (Err error) reading = Fails error reading

@@ -1,4 +1,6 @@
 //! Where an input is refused, and why.
+ghost use Rattle.std.specs.Prelude.{◌≡◌};
+ghost use Rattle.duct_units.specs.declared.fault.ReadError.TheVariants.{NoMemory as out_of_memory, Refused as refused};
 
 use std::alloc::{AllocError, AllocFailed};
 use thiserror::Error;
@@ -112,10 +114,23 @@ impl<T: Drop> From<AllocFailed<T>> for NoMemory {
     }
 }
 
-impl From<NoMemory> for ReadError {
-    ghost use Rattle.std.specs.Prelude.{◌≡◌};
-    ghost use Rattle.duct_units.specs.declared.fault.ReadError.TheVariants.{NoMemory as out_of_memory};
+impl From<AllocError> for ReadError {
+    ghost from_gives = { λ _ error. error ≡ out_of_memory };
 
+    fn from(_error: AllocError) -> ReadError {
+        ReadError::NoMemory
+    }
+}
+
+impl<T: Drop> From<AllocFailed<T>> for ReadError {
+    ghost from_gives = { λ _ error. error ≡ out_of_memory };
+
+    fn from(_error: AllocFailed<T>) -> ReadError {
+        ReadError::NoMemory
+    }
+}
+
+impl From<NoMemory> for ReadError {
     ghost from_gives = { λ _ error. error ≡ out_of_memory };
 
     fn from(_error: NoMemory) -> ReadError {
@@ -124,12 +139,26 @@ impl From<NoMemory> for ReadError {
 }
 
 impl From<Fault> for ReadError {
-    ghost use Rattle.std.specs.Prelude.{◌≡◌};
-    ghost use Rattle.duct_units.specs.declared.fault.ReadError.TheVariants.{Refused as refused};
-
     ghost from_gives = { λ fault error. error ≡ refused fault };
 
     fn from(fault: Fault) -> ReadError {
         ReadError::Refused(fault)
+    }
+}
+
+#[cfg(test)]
+mod tests {
+    use super::*;
+
+    #[test]
+    fn want_of_memory_is_no_refusal(rt: HostRuntime) {
+        let errors: [ReadError; 3] = [
+            AllocError.into(),
+            AllocFailed { value: 7u8 }.into(),
+            NoMemory::from(AllocFailed { value: 7u8 }).into(),
+        ];
+        for error in &errors {
+            assert!(rt; matches!(error, ReadError::NoMemory));
+        }
     }
 }

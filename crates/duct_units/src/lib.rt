@@ -1,5 +1,5 @@
-//! The words of the trade that every crate uses: names, whole numbers, lists, sides, and where and why an input
-//! is refused.
+//! The words of the trade that every crate uses: names, whole numbers and their rounding, lists, sides, and where
+//! and why an input is refused.
 //!
 //! Places count from 1, and 0 is a file as a whole. Of several faults the first in the stated order is named
 //! (specs/Rules.antt).

@@ -18,12 +18,14 @@ impl<T> Model for List<T> {
 }
 
 impl<T> List<T> {
+    /// The vector's items, which are moved and not copied.
     pub fn from_vec(v: Vec<T>) -> List<T>
         ensures { result ≡ v.items }
     {
         List { items: v }
     }
 
+    /// The vector that holds the items.
     pub fn into_vec(self) -> Vec<T>
         ensures { result.items ≡ self }
     {
@@ -31,9 +33,24 @@ impl<T> List<T> {
         items
     }
 
+    /// The items to look at, without moving them.
     pub fn as_slice(&self) -> &[T]
         ensures { result.now ≡ self.now }
     {
         self.items.as_slice()
+    }
+}
+
+#[cfg(test)]
+mod tests {
+    use super::*;
+    use std::test::Fail;
+
+    #[test]
+    fn a_list_keeps_the_items_of_its_vector(rt: HostRuntime) -> Result<(), Fail> {
+        let list = List::from_vec(vec![in rt.alloc(); 3, 1, 2]?);
+        assert_eq!(rt; list.as_slice(), [3, 1, 2].as_slice());
+        assert_eq!(rt; list.into_vec().as_slice(), [3, 1, 2].as_slice());
+        Ok(())
     }
 }

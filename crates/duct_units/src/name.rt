@@ -51,6 +51,7 @@ impl Name {
         })
     }
 
+    /// The bytes of the name, without the zeros behind them.
     pub fn bytes(&self) -> &[u8]
         ensures value { result.now ≡ self.now }
         ensures form { IsTrue (is_name self.now) }
@@ -75,4 +76,42 @@ fn is_name_byte(byte: u8) -> bool
     ensures { result ≡ is_name_byte byte }
 {
     byte.is_ascii_alphanumeric() || matches!(byte, b'_' | b'-' | b'.')
+}
+
+#[cfg(test)]
+mod tests {
+    use super::*;
+    use std::test::Fail;
+
+    #[test]
+    fn a_name_has_up_to_32_bytes_of_five_kinds(rt: HostRuntime) {
+        let cases = [
+            ("", false),
+            ("a", true),
+            ("azAZ09_-.", true),
+            // 32 bytes, and 33
+            ("0123456789abcdef0123456789abcdef", true),
+            ("0123456789abcdef0123456789abcdef0", false),
+            ("a b", false),
+            ("a\u{0}", false),
+            ("a/b", false),
+            ("d\u{fc}se", false),
+        ];
+        for (text, is_name) in cases {
+            assert_eq!(rt; Name::new(text.as_bytes()).is_some(), is_name, "at {text}");
+        }
+        assert!(rt;
+            Name::new(&[b'a', 0xFF]).is_none(),
+            "at bytes that are no text"
+        );
+    }
+
+    #[test]
+    fn a_name_gives_its_bytes_back(rt: HostRuntime) -> Result<(), Fail> {
+        for text in ["r1", "0123456789abcdef0123456789abcdef"] {
+            let name = Name::new(text.as_bytes()).ok_or("no name")?;
+            assert_eq!(rt; name.bytes(), text.as_bytes(), "at {text}");
+        }
+        Ok(())
+    }
 }

@@ -12,3 +12,34 @@ pub fn ceil_div(n: i128, d: i128) -> i128
     let quotient = n / d;
     if n % d > 0 { quotient + 1 } else { quotient }
 }
+
+#[cfg(test)]
+mod tests {
+    use super::*;
+
+    #[test]
+    fn a_fraction_goes_up(rt: HostRuntime) {
+        let cases = [
+            // 3.5 and -3.5
+            (7, 2, 4),
+            (-7, 2, -3),
+            // -300.6
+            (-3006, 10, -300),
+            (0, 5, 0),
+            (6, 3, 2),
+            (-6, 3, -2),
+            (1, i128::MAX, 1),
+            (-1, i128::MAX, 0),
+            (i128::MIN, 1, i128::MIN),
+            (i128::MAX, 1, i128::MAX),
+            // (2 ^ 127 - 1) / 2 is half a unit short of 2 ^ 126
+            (i128::MAX, 2, 1 << 126),
+            // -1 * MAX is MIN + 1, and -2 * MAX is below MIN
+            (i128::MIN, i128::MAX, -1),
+        ];
+        for (n, d, ceiling) in cases {
+            assert!(rt; d > 0, "{n} / {d}");
+            assert_eq!(rt; ceil_div(n, d), ceiling, "{n} / {d}");
+        }
+    }
+}
