@@ -32,4 +32,5 @@ rest_of-none (Some rest) none = absurd (true≢false none)
 
 -- the bytes of the i-th file from a place in it on; none past the last file
 abbrev pub bytes_from : List HeldFile → (ℕ × ℕ) → List ℕ
-bytes_from files place = drop place.1 (option_map_or (λ file. file.bytes) (slice_get files place.0) [])
+bytes_from files place =
+    drop place.1 (option_map_or (λ file. file.bytes) (slice_get files place.0) [])

@@ -1,18 +1,30 @@
 -- Files and a sink in memory: which of their calls fail, and what the others give.
-use Rattle.std.specs.Prelude.{ℕ, ◌+◌, ◌-◌, ◌^◌, ◌==◌, ◌&&◌, List, [], length, Bool, not, nat_lt, min, is_some, if◌then◌else◌}
+--   Numbered        calls that are numbered from 1: those made, and the numbers of those that fail
+--   FilesInMemory   files that are held, the names asked for, and the numbered calls
+--   can_start       the next start of the name is no fault
+--   can_read        the next read is no fault
+--   count_moved     how many bytes the next read moves into a buffer
+--   SinkInMemory    the bytes that a sink took, its room, and the numbered calls
+--   can_write       the next write is no fault
+--   count_taken     how many bytes of a piece the next write takes
+use Rattle.std.specs.Prelude.{ℕ, ◌+◌, ◌-◌, ◌^◌, ◌==◌, ◌&&◌, List, [], length, Bool, not, nat_lt, min, Option, Some, is_some, if◌then◌else◌}
 use Rattle.std.specs.List.{list_any}
-use Rattle.duct_ports.specs.Held.{Opened, is_held}
+use Rattle.duct_ports.specs.Reading.{Contents}
+use Rattle.duct_ports.specs.Held.{Opened, is_held, contents_of, rest_of}
 
 -- one more, up to u64::MAX
 abbrev pub one_more : ℕ → ℕ
 one_more count = min (count + 1) (2 ^ 64 - 1)
 
--- calls that are numbered from 1: how many were made, and the numbers of those that fail
 pub record Numbered : Type 0 where
   pub fails : List ℕ
   pub made : ℕ
 
--- the next call fails
+-- calls with these failing numbers, none of which was made yet
+abbrev pub not_called : List ℕ → Numbered
+not_called fails = record { fails = fails; made = 0 }
+
+-- the number of the next call is one of those that fail
 abbrev pub next_fails : Numbered → Bool
 next_fails calls = list_any (λ number. number == one_more calls.made) calls.fails
 
@@ -24,25 +36,38 @@ after_call calls = record calls { made = one_more calls.made }
 abbrev pub faults_after : ℕ → Bool → ℕ
 faults_after faults ok = if ok then faults else one_more faults
 
--- files in memory, the names asked for, and the numbered calls
 pub record FilesInMemory : Type 0 where
   pub held : Opened
   pub asked : List (List ℕ)
   pub calls : Numbered
   pub faults : ℕ
 
--- the next start of the name is no fault
+-- the bytes that each name holds
+abbrev pub held_by : FilesInMemory → Option Contents
+held_by files = Some (contents_of files.held.files)
+
+-- the bytes left of the started file; none where no file is started
+abbrev pub left_of : FilesInMemory → Option (List ℕ)
+left_of files = Some (rest_of files.held.left)
+
+abbrev pub is_started : FilesInMemory → Bool
+is_started files = is_some files.held.left
+
+-- the name is held, and the number of the call isn't one that fails
 abbrev pub can_start : FilesInMemory → List ℕ → Bool
 can_start files name = is_held files.held.files name && not (next_fails files.calls)
 
--- the next read is no fault; where no file is started it has no number
+-- the number of the call isn't one that fails; where no file is started it has none
 abbrev pub can_read : FilesInMemory → Bool
-can_read files = not (is_some files.held.left && next_fails files.calls)
+can_read files = not (is_started files && next_fails files.calls)
 
 abbrev pub calls_after_read : FilesInMemory → Numbered
-calls_after_read files = if is_some files.held.left then after_call files.calls else files.calls
+calls_after_read files = if is_started files then after_call files.calls else files.calls
 
--- the bytes that a sink took, the most that it takes in all and at once, and the numbered calls
+-- as many as are left and as the buffer has room for
+abbrev pub count_moved : FilesInMemory → List ℕ → ℕ
+count_moved files buf = min (length buf) (length (rest_of files.held.left))
+
 pub record SinkInMemory : Type 0 where
   pub taken : List ℕ
   pub room : ℕ
@@ -50,12 +75,12 @@ pub record SinkInMemory : Type 0 where
   pub calls : Numbered
   pub faults : ℕ
 
--- nothing was taken, no call was made
+-- a sink that took nothing yet
 abbrev pub empty_sink : ℕ → ℕ → List ℕ → SinkInMemory
 empty_sink room most fails =
-    record { taken = []; room = room; most = most; calls = record { fails = fails; made = 0 }; faults = 0 }
+    record { taken = []; room = room; most = most; calls = not_called fails; faults = 0 }
 
--- there is room, and the number of the next write isn't one that fails
+-- there is room left, and the number of the call isn't one that fails
 abbrev pub can_write : SinkInMemory → Bool
 can_write sink = nat_lt (length sink.taken) sink.room && not (next_fails sink.calls)
 

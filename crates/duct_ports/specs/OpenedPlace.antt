@@ -4,4 +4,5 @@ use Rattle.duct_ports.specs.declared.held.HeldFiles.TheInside.{Inside}
 use Rattle.duct_ports.specs.Held.{Opened, bytes_from}
 
 abbrev pub opened : Inside → Opened
-opened inside = record { files = inside.files; left = option_map (bytes_from inside.files) inside.place }
+opened inside =
+    record { files = inside.files; left = option_map (bytes_from inside.files) inside.place }

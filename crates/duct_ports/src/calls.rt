@@ -1,6 +1,6 @@
 //! Calls that are numbered from 1, of which those of some numbers fail.
 ghost use Rattle.std.specs.Prelude.{◌≡◌};
-ghost use Rattle.duct_ports.specs.Memory.{next_fails, after_call};
+ghost use Rattle.duct_ports.specs.Memory.{not_called, next_fails, after_call};
 
 use duct_units::List;
 use std::marker::Model;
@@ -22,7 +22,7 @@ impl Model for Calls {
 
 impl Calls {
     pub fn new(fails: List<u32>) -> Calls
-        ensures { result ≡ record { fails = fails; made = 0 } }
+        ensures { result ≡ not_called fails }
     {
         Calls { fails, made: 0 }
     }

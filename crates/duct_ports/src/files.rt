@@ -49,7 +49,8 @@ pub trait Files<'w> {
         requires { 0 < length buf.old }
 
         ensures bound { IfOk result (λ n. n ≤ length buf.old) }
-        ensures bytes { IfOk result (λ n. Consumes (left self.old) (left self.new) (take n buf.new)) }
+        ensures bytes { IfOk result (λ n.
+            Consumes (left self.old) (left self.new) (take n buf.new)) }
 
         // No file is started before an answer other than 0, nor after the answer 0 or a fault.
         ensures idle { started self.old ≡ false → result ≡ Ok 0 }

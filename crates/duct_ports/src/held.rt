@@ -1,8 +1,7 @@
 //! Files that are held in memory, of which one is read at a time.
-ghost use Rattle.std.specs.Prelude.{◌≡◌, ◌<◌, ◌-◌, ◌+◌, ◌^◌, Some, None, length, take, min, is_some, position};
+ghost use Rattle.std.specs.Prelude.{◌≡◌, ◌<◌, ◌+◌, ◌++◌, ◌^◌, Some, None, length, take, min, is_some, position};
 ghost use Rattle.std.specs.Str.{bytes_eq};
-ghost use Rattle.std.specs.Io.KnownBytes.{Consumes};
-ghost use Rattle.duct_ports.specs.Held.{first_named, is_held, contents_of, rest_of, bytes_from};
+ghost use Rattle.duct_ports.specs.Held.{is_held, contents_of, rest_of, bytes_from};
 
 use duct_units::List;
 use std::marker::Model;
@@ -45,11 +44,13 @@ impl HeldFiles {
         self.place.is_some()
     }
 
+    /// Begins the file of the name, and answers whether there is one. A name that isn't held reads
+    /// as empty.
     #[tactic(auto, using(crate::proofs::HeldLemmas::named_place))]
-    /// Begins the file of the name, and answers whether there is one. A name that isn't held reads as empty.
     pub fn start(&mut self, name: &[u8]) -> bool
         ensures held { result ≡ is_held self.old.files name.now }
-        ensures begun { self.new ≡ record self.old { left = Some (contents_of self.old.files name.now) } }
+        ensures begun { self.new
+            ≡ record self.old { left = Some (contents_of self.old.files name.now) } }
     {
         let files = self.files.as_slice();
         let place = place_of(files, name);
@@ -63,12 +64,13 @@ impl HeldFiles {
         self.place = None;
     }
 
+    /// Moves as many of the bytes left as the buffer has room for. Where there are none, no file is
+    /// started any more.
     #[tactic(auto, using(crate::proofs::HeldLemmas::reads_more))]
-    /// Moves as many of the bytes left as the buffer has room for. Where there are none, no file is started any more.
     pub fn read(&mut self, buf: &mut [u8]) -> usize
         requires { 0 < length buf.old }
         ensures count { result ≡ min (length buf.old) (length (rest_of self.old.left)) }
-        ensures bytes { Consumes (Some (rest_of self.old.left)) (Some (rest_of self.new.left)) (take result buf.new) }
+        ensures bytes { rest_of self.old.left ≡ take result buf.new ++ rest_of self.new.left }
         ensures ended { result ≡ 0 → self.new.left ≡ None }
         ensures kept { self.new.files ≡ self.old.files }
     {

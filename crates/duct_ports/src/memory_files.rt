@@ -1,7 +1,8 @@
 //! Files in memory, of whose calls those of some numbers fail.
-ghost use Rattle.std.specs.Prelude.{◌≡◌, ◌<◌, ◌≤◌, ◌++◌, [], ◌∷◌, refl, Some, None, false, length, take, min, is_some, is_ok, IfOk, OnOk, OnErr};
+ghost use Rattle.std.specs.Prelude.{◌≡◌, ◌<◌, ◌≤◌, ◌++◌, [], ◌∷◌, refl, None, false, length, take, is_ok, IfOk, OnOk, OnErr};
 ghost use Rattle.std.specs.Io.KnownBytes.{Consumes};
 ghost use Rattle.duct_ports.specs.Faults.{Rose};
+ghost use Rattle.duct_ports.specs.Reading.{IsBegun};
 
 use crate::asked::Asked;
 use crate::calls::Calls;
@@ -25,15 +26,18 @@ impl<'w> Model for MemoryFiles<'w> {
 
     ghost Value = { FilesInMemory };
 
-    ghost view = { λ files. record { held = files.held; asked = files.asked; calls = files.calls; faults = files.faults } };
+    ghost view = { λ f.
+        record { held = f.held; asked = f.asked; calls = f.calls; faults = f.faults } };
 }
 
 impl<'w> MemoryFiles<'w> {
+    ghost use Rattle.duct_ports.specs.Memory.{not_called, one_more};
+
     /// `fails` has the numbers of the calls that fail.
     pub fn new(files: List<HeldFile>, fails: List<u32>) -> MemoryFiles<'w>
         ensures held { result.held ≡ record { files = files; left = None } }
         ensures names { result.asked ≡ [] }
-        ensures calls { result.calls ≡ record { fails = fails; made = 0 } }
+        ensures calls { result.calls ≡ not_called fails }
         ensures faults { result.faults ≡ 0 }
     {
         MemoryFiles {
@@ -43,19 +47,34 @@ impl<'w> MemoryFiles<'w> {
             faults: 0,
         }
     }
+
+    /// Lets the started file go, and counts a fault.
+    fn fail(&mut self) -> FileFault
+        ensures stopped { self.new.held ≡ record self.old.held { left = None } }
+        ensures faults { self.new.faults ≡ one_more self.old.faults }
+        ensures count { self.old.faults ≤ self.new.faults }
+        ensures names { self.new.asked ≡ self.old.asked }
+        ensures calls { self.new.calls ≡ self.old.calls }
+    {
+        self.held.stop();
+        self.faults = self.faults.saturating_add(1);
+        FileFault
+    }
 }
 
 impl<'w> Files<'w> for MemoryFiles<'w> {
-    ghost use Rattle.duct_ports.specs.Held.{is_held, contents_of, rest_of, rest_of-none};
-    ghost use Rattle.duct_ports.specs.Memory.{can_start, can_read, calls_after_read, after_call, faults_after};
+    ghost use Rattle.duct_ports.specs.Held.{rest_of-none};
+    ghost use Rattle.duct_ports.specs.Memory.{held_by, left_of, is_started};
+    ghost use Rattle.duct_ports.specs.Memory.{can_start, can_read, count_moved};
+    ghost use Rattle.duct_ports.specs.Memory.{after_call, calls_after_read, faults_after};
 
     ghost asked = { λ files. files.asked };
 
-    ghost held = { λ files. Some (contents_of files.held.files) };
+    ghost held = { held_by };
 
-    ghost left = { λ files. Some (rest_of files.held.left) };
+    ghost left = { left_of };
 
-    ghost started = { λ files. is_some files.held.left };
+    ghost started = { is_started };
 
     ghost fault_count = { λ files. files.faults };
 
@@ -71,10 +90,10 @@ impl<'w> Files<'w> for MemoryFiles<'w> {
         ensures calls { self.new.calls ≡ after_call self.old.calls }
         ensures faults { self.new.faults ≡ faults_after self.old.faults (is_ok result) }
 
-        // The trait's clauses.
+        // What the trait promises.
         ensures names { self.new.asked ≡ self.old.asked ++ name.now ∷ [] }
-        ensures started { is_some self.new.held.left ≡ is_ok result }
-        ensures begun { OnOk result (Some (rest_of self.new.held.left) ≡ Some (contents_of self.old.held.files name.now)) }
+        ensures started { is_started self.new ≡ is_ok result }
+        ensures begun { OnOk result (IsBegun (held_by self.old) name.now (left_of self.new)) }
         ensures kept { self.new.held.files ≡ self.old.held.files }
         ensures count { self.old.faults ≤ self.new.faults }
         ensures cause { OnErr result (Rose self.old.faults self.new.faults) }
@@ -85,9 +104,7 @@ impl<'w> Files<'w> for MemoryFiles<'w> {
         if is_held && !fails {
             return Ok(());
         }
-        self.held.stop();
-        self.faults = self.faults.saturating_add(1);
-        Err(FileFault)
+        Err(self.fail())
     }
 
     /// A call whose number fails is a fault. Where no file is started the call has no number.
@@ -95,16 +112,17 @@ impl<'w> Files<'w> for MemoryFiles<'w> {
         requires { 0 < length buf.old }
 
         ensures ok { is_ok result ≡ can_read self.old }
-        ensures fills { IfOk result (λ n. n ≡ min (length buf.old) (length (rest_of self.old.held.left))) }
+        ensures fills { IfOk result (λ n. n ≡ count_moved self.old buf.old) }
         ensures calls { self.new.calls ≡ calls_after_read self.old }
         ensures faults { self.new.faults ≡ faults_after self.old.faults (is_ok result) }
 
-        // The trait's clauses.
+        // What the trait promises.
         ensures bound { IfOk result (λ n. n ≤ length buf.old) }
-        ensures bytes { IfOk result (λ n. Consumes (Some (rest_of self.old.held.left)) (Some (rest_of self.new.held.left)) (take n buf.new)) }
-        ensures idle { is_some self.old.held.left ≡ false → result ≡ Ok 0 }
-        ensures ended { result ≡ Ok 0 → is_some self.new.held.left ≡ false }
-        ensures stopped { OnErr result (is_some self.new.held.left ≡ false) }
+        ensures bytes { IfOk result (λ n.
+            Consumes (left_of self.old) (left_of self.new) (take n buf.new)) }
+        ensures idle { is_started self.old ≡ false → result ≡ Ok 0 }
+        ensures ended { result ≡ Ok 0 → is_started self.new ≡ false }
+        ensures stopped { OnErr result (is_started self.new ≡ false) }
         ensures names { self.new.asked ≡ self.old.asked }
         ensures kept { self.new.held.files ≡ self.old.held.files }
         ensures count { self.old.faults ≤ self.new.faults }
@@ -114,9 +132,7 @@ impl<'w> Files<'w> for MemoryFiles<'w> {
             return Ok(0);
         }
         if self.calls.next_fails() {
-            self.held.stop();
-            self.faults = self.faults.saturating_add(1);
-            return Err(FileFault);
+            return Err(self.fail());
         }
         Ok(self.held.read(buf))
     }

@@ -81,7 +81,7 @@ impl Sink for MemorySink {
         ensures faults { self.new.faults ≡ faults_after self.old.faults (is_ok result) }
         ensures limits { (self.new.room ≡ self.old.room) × (self.new.most ≡ self.old.most) }
 
-        // The trait's clauses.
+        // What the trait promises.
         ensures some { IfOk result (λ n. 1 ≤ n) }
         ensures bound { IfOk result (λ n. n ≤ length piece.now) }
         ensures bytes { IfOk result (λ n. self.new.taken ≡ self.old.taken ++ take n piece.now) }

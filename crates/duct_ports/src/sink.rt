@@ -26,7 +26,8 @@ pub trait Sink {
 
         ensures some { IfOk result (λ n. 1 ≤ n) }
         ensures bound { IfOk result (λ n. n ≤ length piece.now) }
-        ensures bytes { IfOk result (λ n. Appends (taken self.old) (taken self.new) (take n piece.now)) }
+        ensures bytes { IfOk result (λ n.
+            Appends (taken self.old) (taken self.new) (take n piece.now)) }
         ensures kept { OnErr result (Keeps (taken self.old) (taken self.new)) }
         ensures tells { is_some (taken self.new) ≡ is_some (taken self.old) }
         ensures count { fault_count self.old ≤ fault_count self.new }
