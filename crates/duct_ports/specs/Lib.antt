@@ -4,4 +4,5 @@ pub mod Writing
 pub mod Held
 pub mod OpenedPlace
 pub mod Memory
+pub mod FilesFields
 pub mod SinkFields

@@ -1,6 +1,7 @@
 -- Files and a sink in memory: which of their calls fail, and what the others give.
 --   Numbered        calls that are numbered from 1: those made, and the numbers of those that fail
---   FilesInMemory   files that are held, the names asked for, and the numbered calls
+--   FilesInMemory   files that are held, the bytes left of the one that is started, the names asked
+--                   for, and the numbered calls
 --   can_start       the next start of the name is no fault
 --   can_read        the next read is no fault
 --   count_moved     how many bytes the next read moves into a buffer
@@ -9,8 +10,9 @@
 --   count_taken     how many bytes of a piece the next write takes
 use Rattle.std.specs.Prelude.{ℕ, ◌+◌, ◌-◌, ◌^◌, ◌==◌, ◌&&◌, List, [], length, Bool, not, nat_lt, min, Option, Some, is_some, if◌then◌else◌}
 use Rattle.std.specs.List.{list_any}
+use Rattle.duct_ports.specs.declared.held.HeldFile.{HeldFile}
 use Rattle.duct_ports.specs.Reading.{Contents}
-use Rattle.duct_ports.specs.Held.{Opened, is_held, contents_of, rest_of}
+use Rattle.duct_ports.specs.Held.{is_held, contents_of, rest_of}
 
 -- one more, up to u64::MAX
 abbrev pub one_more : ℕ → ℕ
@@ -37,36 +39,37 @@ abbrev pub faults_after : ℕ → Bool → ℕ
 faults_after faults ok = if ok then faults else one_more faults
 
 pub record FilesInMemory : Type 0 where
-  pub held : Opened
+  pub files : List HeldFile
+  pub left : Option (List ℕ)
   pub asked : List (List ℕ)
   pub calls : Numbered
   pub faults : ℕ
 
 -- the bytes that each name holds
 abbrev pub held_by : FilesInMemory → Option Contents
-held_by files = Some (contents_of files.held.files)
+held_by source = Some (contents_of source.files)
 
 -- the bytes left of the started file; none where no file is started
 abbrev pub left_of : FilesInMemory → Option (List ℕ)
-left_of files = Some (rest_of files.held.left)
+left_of source = Some (rest_of source.left)
 
 abbrev pub is_started : FilesInMemory → Bool
-is_started files = is_some files.held.left
+is_started source = is_some source.left
 
 -- the name is held, and the number of the call isn't one that fails
 abbrev pub can_start : FilesInMemory → List ℕ → Bool
-can_start files name = is_held files.held.files name && not (next_fails files.calls)
+can_start source name = is_held source.files name && not (next_fails source.calls)
 
 -- the number of the call isn't one that fails; where no file is started it has none
 abbrev pub can_read : FilesInMemory → Bool
-can_read files = not (is_started files && next_fails files.calls)
+can_read source = not (is_started source && next_fails source.calls)
 
 abbrev pub calls_after_read : FilesInMemory → Numbered
-calls_after_read files = if is_started files then after_call files.calls else files.calls
+calls_after_read source = if is_started source then after_call source.calls else source.calls
 
 -- as many as are left and as the buffer has room for
 abbrev pub count_moved : FilesInMemory → List ℕ → ℕ
-count_moved files buf = min (length buf) (length (rest_of files.held.left))
+count_moved source buf = min (length buf) (length (rest_of source.left))
 
 pub record SinkInMemory : Type 0 where
   pub taken : List ℕ

@@ -30,6 +30,7 @@ pub trait Files<'w> {
     // whether a file is started
     ghost started: { Self → Bool };
 
+    // the count of faults
     ghost fault_count: { Self → ℕ };
 
     /// Begins the named file at its first byte. The file that was started before is let go.
@@ -52,7 +53,7 @@ pub trait Files<'w> {
         ensures bytes { IfOk result (λ n.
             Consumes (left self.old) (left self.new) (take n buf.new)) }
 
-        // No file is started before an answer other than 0, nor after the answer 0 or a fault.
+        // Where no file is started the answer is 0. After the answer 0 or a fault none is started.
         ensures idle { started self.old ≡ false → result ≡ Ok 0 }
         ensures ended { result ≡ Ok 0 → started self.new ≡ false }
         ensures stopped { OnErr result (started self.new ≡ false) }

@@ -26,8 +26,9 @@ impl<'w> Model for MemoryFiles<'w> {
 
     ghost Value = { FilesInMemory };
 
-    ghost view = { λ f.
-        record { held = f.held; asked = f.asked; calls = f.calls; faults = f.faults } };
+    ghost use Rattle.duct_ports.specs.FilesFields.{seen};
+
+    ghost view = { seen };
 }
 
 impl<'w> MemoryFiles<'w> {
@@ -35,7 +36,8 @@ impl<'w> MemoryFiles<'w> {
 
     /// `fails` has the numbers of the calls that fail.
     pub fn new(files: List<HeldFile>, fails: List<u32>) -> MemoryFiles<'w>
-        ensures held { result.held ≡ record { files = files; left = None } }
+        ensures files { result.files ≡ files }
+        ensures idle { result.left ≡ None }
         ensures names { result.asked ≡ [] }
         ensures calls { result.calls ≡ not_called fails }
         ensures faults { result.faults ≡ 0 }
@@ -50,7 +52,8 @@ impl<'w> MemoryFiles<'w> {
 
     /// Lets the started file go, and counts a fault.
     fn fail(&mut self) -> FileFault
-        ensures stopped { self.new.held ≡ record self.old.held { left = None } }
+        ensures stopped { self.new.left ≡ None }
+        ensures files { self.new.files ≡ self.old.files }
         ensures faults { self.new.faults ≡ one_more self.old.faults }
         ensures count { self.old.faults ≤ self.new.faults }
         ensures names { self.new.asked ≡ self.old.asked }
@@ -68,7 +71,7 @@ impl<'w> Files<'w> for MemoryFiles<'w> {
     ghost use Rattle.duct_ports.specs.Memory.{can_start, can_read, count_moved};
     ghost use Rattle.duct_ports.specs.Memory.{after_call, calls_after_read, faults_after};
 
-    ghost asked = { λ files. files.asked };
+    ghost asked = { λ source. source.asked };
 
     ghost held = { held_by };
 
@@ -76,11 +79,11 @@ impl<'w> Files<'w> for MemoryFiles<'w> {
 
     ghost started = { is_started };
 
-    ghost fault_count = { λ files. files.faults };
+    ghost fault_count = { λ source. source.faults };
 
     ghost tells = { λ _. refl };
 
-    ghost nothing_left = { λ files. rest_of-none files.held.left };
+    ghost nothing_left = { λ source. rest_of-none source.left };
 
     /// A call whose number fails is a fault, and so is the start of a name that isn't held.
     fn start(&mut self, name: &'w str) -> Result<(), FileFault>
@@ -94,7 +97,7 @@ impl<'w> Files<'w> for MemoryFiles<'w> {
         ensures names { self.new.asked ≡ self.old.asked ++ name.now ∷ [] }
         ensures started { is_started self.new ≡ is_ok result }
         ensures begun { OnOk result (IsBegun (held_by self.old) name.now (left_of self.new)) }
-        ensures kept { self.new.held.files ≡ self.old.held.files }
+        ensures kept { self.new.files ≡ self.old.files }
         ensures count { self.old.faults ≤ self.new.faults }
         ensures cause { OnErr result (Rose self.old.faults self.new.faults) }
     {
@@ -124,7 +127,7 @@ impl<'w> Files<'w> for MemoryFiles<'w> {
         ensures ended { result ≡ Ok 0 → is_started self.new ≡ false }
         ensures stopped { OnErr result (is_started self.new ≡ false) }
         ensures names { self.new.asked ≡ self.old.asked }
-        ensures kept { self.new.held.files ≡ self.old.held.files }
+        ensures kept { self.new.files ≡ self.old.files }
         ensures count { self.old.faults ≤ self.new.faults }
         ensures cause { OnErr result (Rose self.old.faults self.new.faults) }
     {

@@ -79,7 +79,8 @@ impl Sink for MemorySink {
         ensures takes { IfOk result (λ n. n ≡ count_taken self.old piece.now) }
         ensures calls { self.new.calls ≡ after_call self.old.calls }
         ensures faults { self.new.faults ≡ faults_after self.old.faults (is_ok result) }
-        ensures limits { (self.new.room ≡ self.old.room) × (self.new.most ≡ self.old.most) }
+        ensures room { self.new.room ≡ self.old.room }
+        ensures most { self.new.most ≡ self.old.most }
 
         // What the trait promises.
         ensures some { IfOk result (λ n. 1 ≤ n) }

@@ -18,6 +18,7 @@ pub trait Sink {
     // the bytes taken so far, where the object tells them
     ghost taken: { Self → Option (List ℕ) };
 
+    // the count of faults
     ghost fault_count: { Self → ℕ };
 
     /// Takes bytes from the front of `piece`, and answers how many.

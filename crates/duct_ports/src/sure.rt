@@ -1,6 +1,5 @@
 //! Files and a sink that never fail, and whose count of faults is the constant 0.
-ghost use Rattle.std.specs.Prelude.{◌≡◌, ◌<◌, ◌≤◌, ◌++◌, [], ◌∷◌, refl, Some, None, false, length, take, min, is_some, is_ok, IfOk, OnOk, OnErr};
-ghost use Rattle.std.specs.Io.KnownBytes.{Consumes};
+ghost use Rattle.std.specs.Prelude.{◌≡◌, ◌<◌, [], refl, Some, None, length, is_some};
 
 use crate::asked::Asked;
 use crate::files::{FileFault, Files};

@@ -2,9 +2,8 @@
 //! and output.
 ghost use Rattle.std.specs.Prelude.{◌≡◌, [], IfOk};
 
-use crate::sink::Sink;
 use crate::{
-    DiskFiles, Files, Gate, HeldFile, MemoryFiles, MemorySink, OpenGate, StdSink, SureFiles,
+    DiskFiles, Files, Gate, HeldFile, MemoryFiles, MemorySink, OpenGate, Sink, StdSink, SureFiles,
     SureSink, TakeError, read_all, write_all,
 };
 use duct_units::List;
