@@ -5,6 +5,7 @@
 //! (specs/Rules.antt).
 #![tactic(auto)]
 
+mod compare;
 mod fault;
 mod list;
 mod name;
