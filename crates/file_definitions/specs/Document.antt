@@ -1,7 +1,9 @@
 -- A TOML document, and what stands at its keys.
 --   document_of bytes        the document that the bytes are, or none
 --   has_only keys ms         each key of the table is among these
+--   has_key key ms           the table has the key
 --   items_at key ms          the items of the array at the key; none where there is no array
+--   tables_at, names_at, arrays_at   the same where each item is a table, a name, an array
 --   number_at key low high   the integer at the key, where it is one from low to high
 --   text_at, name_at         the string at the key; the same where it is a name
 use Rattle.std.specs.Prelude.{ℕ, ℤ, pos, negsuc, nat_le, List, [], ◌∷◌, length, Bool, true, ◌&&◌, ◌==◌, if◌then◌else◌, Option, Some, None, option_and_then, option_map, is_some}
@@ -19,6 +21,9 @@ document_of bytes = if utf8_valid_len bytes == length bytes then parse_document 
 abbrev pub has_only : List (List ℕ) → Members → Bool
 has_only keys no_members = true
 has_only keys (member key value rest) = list_any (bytes_eq key) keys && has_only keys rest
+
+abbrev pub has_key : List ℕ → Members → Bool
+has_key key ms = is_some (get_member key ms)
 
 -- the items of an array, in order
 abbrev pub list_of : Items → List Data
@@ -52,3 +57,17 @@ name_in value = option_and_then name_of (as_str value)
 
 abbrev pub name_at : List ℕ → Members → Option (List ℕ)
 name_at key ms = option_and_then name_of (text_at key ms)
+
+-- what each value is, where every one is of the kind
+abbrev pub all_of : {A : Type 0} → (Data → Option A) → List Data → Option (List A)
+all_of kind [] = Some []
+all_of kind (value ∷ values) = option_and_then (λ first. option_map (λ others. first ∷ others) (all_of kind values)) (kind value)
+
+abbrev pub tables_at : List ℕ → Members → Option (List Members)
+tables_at key ms = option_and_then (all_of as_table) (items_at key ms)
+
+abbrev pub names_at : List ℕ → Members → Option (List (List ℕ))
+names_at key ms = option_and_then (all_of name_in) (items_at key ms)
+
+abbrev pub arrays_at : List ℕ → Members → Option (List (List Data))
+arrays_at key ms = option_and_then (all_of items_of) (items_at key ms)
