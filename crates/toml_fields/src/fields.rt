@@ -6,12 +6,19 @@ ghost use Rattle.std.specs.Str.{bytes_eq};
 ghost use Rattle.toml.specs.Data.{as_integer, as_array, get_member};
 ghost use Rattle.toml.specs.View.{table_view, array_view, view};
 ghost use Rattle.duct_units.specs.Name.{is_name};
-ghost use Rattle.file_definitions.specs.Document.{has_only, items_at, number_at, name_at, text_at};
+ghost use Rattle.file_definitions.specs.Document.{has_key, has_only, items_at, number_at, name_at, text_at};
 
 use crate::values::bounded;
 use duct_units::Name;
 use toml::value::Array;
 use toml::{Table, Value};
+
+/// Whether the table has the key.
+pub fn has_key(table: &Table, key: &str) -> bool
+    ensures { result ≡ has_key key.now (table_view table.now) }
+{
+    table.get(key).is_some()
+}
 
 /// The integer at a key.
 pub fn integer_at(table: &Table, key: &str) -> Option<i64>

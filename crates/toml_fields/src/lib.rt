@@ -3,10 +3,16 @@
 //! None of them refuses anything: which absence is which refusal is the reader's rule.
 #![tactic(auto)]
 
+mod arrays;
 mod document;
 mod fields;
+mod names;
+mod tables;
 mod values;
 
+pub use arrays::Arrays;
 pub use document::{DocumentError, read_document};
-pub use fields::{has_only, integer_at, items_at, name_at, number_at, text_at};
-pub use values::{are_tables, bounded, items_of, name_in};
+pub use fields::{has_key, has_only, integer_at, items_at, name_at, number_at, text_at};
+pub use names::Names;
+pub use tables::Tables;
+pub use values::{are_arrays, are_names, are_tables, bounded, items_of, name_in};

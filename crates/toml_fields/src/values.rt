@@ -4,7 +4,7 @@ ghost use Rattle.std.specs.List.{list_all};
 ghost use Rattle.toml.specs.Data.{as_table};
 ghost use Rattle.toml.specs.View.{view};
 ghost use Rattle.duct_units.specs.Name.{is_name};
-ghost use Rattle.file_definitions.specs.Document.{are_tables, bounded, items_of, name_in};
+ghost use Rattle.file_definitions.specs.Document.{all_of, are_tables, bounded, items_of, name_in};
 
 use duct_units::Name;
 use toml::Value;
@@ -52,8 +52,34 @@ pub fn are_tables(values: &[Value]) -> bool
     are_tables_each(values)
 }
 
+/// Whether each value is a name.
+pub fn are_names(values: &[Value]) -> bool
+    ensures { result ≡ is_some (all_of name_in (map view values.now)) }
+{
+    are_names_each(values)
+}
+
+/// Whether each value is an array.
+pub fn are_arrays(values: &[Value]) -> bool
+    ensures { result ≡ is_some (all_of items_of (map view values.now)) }
+{
+    are_arrays_each(values)
+}
+
 fn are_tables_each(values: &[Value]) -> bool
     ensures { result ≡ list_all (λ value. is_some (as_table (view value))) values.now }
 {
     values.iter().all(|value| value.is_table())
+}
+
+fn are_names_each(values: &[Value]) -> bool
+    ensures { result ≡ list_all (λ value. is_some (name_in (view value))) values.now }
+{
+    values.iter().all(|value| name_in(value).is_some())
+}
+
+fn are_arrays_each(values: &[Value]) -> bool
+    ensures { result ≡ list_all (λ value. is_some (items_of (view value))) values.now }
+{
+    values.iter().all(|value| items_of(value).is_some())
 }

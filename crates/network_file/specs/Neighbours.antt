@@ -1,0 +1,31 @@
+-- The neighbours of the sections of a network file, by name and by number.
+use Rattle.std.specs.Prelude.{ℕ, ◌+◌, List, [], ◌∷◌, map, length, Bool, true, Option, Some, None, option_and_then}
+use Rattle.duct_units.specs.declared.fault.Reason.TheVariants.{UnknownNeighbour}
+use Rattle.duct_units.specs.Rules.{Rule, at_section}
+use Rattle.duct_definitions.specs.Tree.{Tree}
+use Rattle.name_index.specs.Places.{place_of, is_among}
+use Rattle.file_definitions.specs.Elements.{each}
+use Rattle.network_file.specs.SectionTables.{SectionEntry}
+
+abbrev pub entry_names : List SectionEntry → List (List ℕ)
+entry_names sections = map (λ section. section.name) sections
+
+-- the number of the neighbour among all sections; none at the fan
+abbrev pub neighbour_of : List SectionEntry → SectionEntry → Option ℕ
+neighbour_of sections section = option_and_then (λ name. place_of name (entry_names sections)) section.neighbour
+
+-- some section has the neighbour's name
+abbrev pub is_known : List (List ℕ) → Option (List ℕ) → Bool
+is_known names None = true
+is_known names (Some name) = is_among name names
+
+abbrev pub neighbour_rules : List SectionEntry → List SectionEntry → SectionEntry → List Rule
+neighbour_rules sections before section =
+    at_section (length before + 1) (is_known (entry_names sections) section.neighbour) UnknownNeighbour ∷ []
+
+-- each neighbour is a section, which may stand earlier or later
+abbrev pub neighbours_rules : List SectionEntry → List Rule
+neighbours_rules sections = each (neighbour_rules sections) sections
+
+abbrev pub tree_of : List SectionEntry → Tree
+tree_of sections = record { neighbours = map (neighbour_of sections) sections; sides = map (λ section. section.side) sections }
