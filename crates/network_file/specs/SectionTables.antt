@@ -1,5 +1,5 @@
 -- The tables of the sections of a network file.
-use Rattle.std.specs.Prelude.{ℕ, ◌+◌, List, [], ◌∷◌, ◌++◌, codes, map, length, nat_le, Bool, not, ◌||◌, if◌then◌else◌, Option, Some, None, option_and_then, is_some, unwrap_or}
+use Rattle.std.specs.Prelude.{ℕ, ◌+◌, List, [], ◌∷◌, ◌++◌, codes, map, length, nat_le, Bool, not, if◌then◌else◌, Option, Some, None, option_and_then, option_map, is_some, unwrap_or}
 use Rattle.std.specs.Str.{bytes_eq}
 use Rattle.toml.specs.Data.{Data, Members}
 use Rattle.duct_units.specs.declared.fault.Reason.TheVariants.{Key, Field, TooMany, Twice}
@@ -20,9 +20,9 @@ side_called word = if bytes_eq word (codes "supply") then Some Supply else if by
 abbrev pub side_at : Members → Option Side
 side_at table = option_and_then side_called (text_at (codes "side") table)
 
--- no neighbour, or one that is a name
-abbrev pub has_neighbour : Members → Bool
-has_neighbour table = not (has_key (codes "neighbour") table) || is_some (name_at (codes "neighbour") table)
+-- the neighbour's name, none where the key is absent
+abbrev pub neighbour_at : Members → Option (Option (List ℕ))
+neighbour_at table = if has_key (codes "neighbour") table then option_map (λ name. Some name) (name_at (codes "neighbour") table) else Some None
 
 -- What the table of a section says: the neighbour by its name, none at the fan, and each pair as an array of values.
 pub record SectionEntry : Type 0 where
@@ -37,7 +37,7 @@ abbrev pub entry_of : Members → SectionEntry
 entry_of table = record {
   name = unwrap_or (name_at (codes "name") table) [];
   side = unwrap_or (side_at table) Supply;
-  neighbour = name_at (codes "neighbour") table;
+  neighbour = unwrap_or (neighbour_at table) None;
   sizes = unwrap_or (names_at (codes "sizes") table) [];
   pairs = unwrap_or (arrays_at (codes "pairs") table) [];
 }
@@ -51,7 +51,7 @@ section_table_rules n table =
     at_section n (has_only section_keys table) Key
     ∷ at_section n (is_some (name_at (codes "name") table)) Field
     ∷ at_section n (is_some (side_at table)) Field
-    ∷ at_section n (has_neighbour table) Field
+    ∷ at_section n (is_some (neighbour_at table)) Field
     ∷ at_section n (is_some (names_at (codes "sizes") table)) Field
     ∷ at_section n (is_some (arrays_at (codes "pairs") table)) Field ∷ []
 

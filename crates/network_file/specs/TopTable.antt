@@ -1,5 +1,5 @@
 -- The top table of a network file: its format, its name, its fans and its sections.
-use Rattle.std.specs.Prelude.{ℕ, List, [], ◌∷◌, codes, Bool, not, ◌||◌, option_and_then, is_some, unwrap_or}
+use Rattle.std.specs.Prelude.{ℕ, List, [], ◌∷◌, codes, Bool, if◌then◌else◌, Option, Some, option_and_then, is_some, unwrap_or}
 use Rattle.toml.specs.Data.{Members, get_member, as_integer}
 use Rattle.duct_units.specs.declared.fault.Reason.TheVariants.{Key, Field, Format}
 use Rattle.duct_units.specs.Rules.{Rule, at_file}
@@ -16,9 +16,9 @@ has_format doc = is_some (option_and_then as_integer (get_member (codes "format"
 abbrev pub is_format_1 : Members → Bool
 is_format_1 doc = is_some (number_at (codes "format") 1 1 doc)
 
--- there are no fans, or an array of tables
-abbrev pub has_fans : Members → Bool
-has_fans doc = not (has_key (codes "fan") doc) || is_some (tables_at (codes "fan") doc)
+-- the tables of the fans, none where the key is absent
+abbrev pub fans_at : Members → Option (List Members)
+fans_at doc = if has_key (codes "fan") doc then tables_at (codes "fan") doc else Some []
 
 -- no other key; then key by key
 abbrev pub top_rules : Members → List Rule
@@ -27,7 +27,7 @@ top_rules doc =
     ∷ at_file (has_format doc) Field
     ∷ at_file (is_format_1 doc) Format
     ∷ at_file (is_some (name_at (codes "name") doc)) Field
-    ∷ at_file (has_fans doc) Field
+    ∷ at_file (is_some (fans_at doc)) Field
     ∷ at_file (is_some (tables_at (codes "section") doc)) Field ∷ []
 
 -- what the keys hold, where these rules hold
@@ -35,7 +35,16 @@ abbrev pub network_name : Members → List ℕ
 network_name doc = unwrap_or (name_at (codes "name") doc) []
 
 abbrev pub fan_tables : Members → List Members
-fan_tables doc = unwrap_or (tables_at (codes "fan") doc) []
+fan_tables doc = unwrap_or (fans_at doc) []
 
 abbrev pub section_tables : Members → List Members
 section_tables doc = unwrap_or (tables_at (codes "section") doc) []
+
+-- What the top table says, of the fans and of the sections their tables.
+pub record TopEntry : Type 0 where
+  pub name : List ℕ
+  pub fans : List Members
+  pub sections : List Members
+
+abbrev pub top_in : Members → TopEntry
+top_in doc = record { name = network_name doc; fans = fan_tables doc; sections = section_tables doc }

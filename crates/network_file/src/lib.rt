@@ -1,8 +1,13 @@
 //! The network of a network file, or the first rule of the file that it breaks.
 //!
-//! Places count from 1, and 0 is the file as a whole (docs/FORMATS.md, "Network file").
+//! Pressures and losses are in dPa, money in cents. Places of refusals count from 1, and 0 is the file as a whole
+//! (docs/FORMATS.md, "Network file").
 #![tactic(auto)]
 
+mod fans;
+mod fault;
 mod pairs;
+mod sections;
+mod top;
 
 pub use pairs::MAX_PAIRS;
