@@ -86,3 +86,21 @@ pub grown_seen : {A B C : Type 0} (view : C → B) (f : A → B) (xs : List A) (
 grown_seen view f xs i x ok old new y at is done so_far same =
     ap (map view) (is ∙ ap (λ b. if b then old ++ y ∷ [] else old) done) ∙ map-append view old (y ∷ [])
     ∙ ap (λ ys. ys ++ view y ∷ []) so_far ∙ ap (λ z. map f (take i xs) ++ z ∷ []) same ∙ sym (map_next f xs i x at)
+
+-- An element's rules, by its place from 1.
+abbrev pub numbered : {A : Type 0} → (ℕ → A → List Rule) → List A → A → List Rule
+numbered own before x = own (length before + 1) x
+
+-- at the i-th element one is broken, so it is the first of all
+pub numbered_broken : {A : Type 0} (own : ℕ → A → List Rule) (xs : List A) (i : ℕ) (x : A) (broken : Fault)
+    → first_broken (each (numbered own) xs) ≡ first_broken (each_after (numbered own) (take i xs) (drop i xs)) → slice_get xs i ≡ Some x
+    → first_broken (own (i + 1) x) ≡ Some broken → first_broken (each (numbered own) xs) ≡ Some broken
+numbered_broken own xs i x broken so_far at some =
+    so_far ∙ each_here (numbered own) xs i x broken at (subst (λ n. first_broken (own n x) ≡ Some broken) (sym (place_of_element xs i x at)) some)
+
+-- or none is
+pub numbered_holds : {A : Type 0} (own : ℕ → A → List Rule) (xs : List A) (i : ℕ) (x : A)
+    → first_broken (each (numbered own) xs) ≡ first_broken (each_after (numbered own) (take i xs) (drop i xs)) → slice_get xs i ≡ Some x
+    → first_broken (own (i + 1) x) ≡ None → first_broken (each (numbered own) xs) ≡ first_broken (each_after (numbered own) (take (i + 1) xs) (drop (i + 1) xs))
+numbered_holds own xs i x so_far at none =
+    so_far ∙ each_past (numbered own) xs i x at (subst (λ n. first_broken (own n x) ≡ None) (sym (place_of_element xs i x at)) none)

@@ -10,18 +10,24 @@ use Rattle.network_file.specs.SectionTables.{SectionEntry}
 abbrev pub entry_names : List SectionEntry → List (List ℕ)
 entry_names sections = map (λ section. section.name) sections
 
--- the number of the neighbour among all sections; none at the fan
+-- the number of the neighbour among the sections of these names; none at the fan
+abbrev pub neighbour_among : List (List ℕ) → Option (List ℕ) → Option ℕ
+neighbour_among names neighbour = option_and_then (λ name. place_of name names) neighbour
+
 abbrev pub neighbour_of : List SectionEntry → SectionEntry → Option ℕ
-neighbour_of sections section = option_and_then (λ name. place_of name (entry_names sections)) section.neighbour
+neighbour_of sections section = neighbour_among (entry_names sections) section.neighbour
 
 -- some section has the neighbour's name
 abbrev pub is_known : List (List ℕ) → Option (List ℕ) → Bool
 is_known names None = true
 is_known names (Some name) = is_among name names
 
+-- the n-th section's neighbour is at the fan, or one of these
+abbrev pub known_rules : List (List ℕ) → ℕ → Option (List ℕ) → List Rule
+known_rules names n neighbour = at_section n (is_known names neighbour) UnknownNeighbour ∷ []
+
 abbrev pub neighbour_rules : List SectionEntry → List SectionEntry → SectionEntry → List Rule
-neighbour_rules sections before section =
-    at_section (length before + 1) (is_known (entry_names sections) section.neighbour) UnknownNeighbour ∷ []
+neighbour_rules sections before section = known_rules (entry_names sections) (length before + 1) section.neighbour
 
 -- each neighbour is a section, which may stand earlier or later
 abbrev pub neighbours_rules : List SectionEntry → List Rule

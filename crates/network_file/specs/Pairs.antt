@@ -10,6 +10,8 @@ use Rattle.name_index.specs.Places.{is_among}
 use Rattle.file_definitions.specs.Document.{bounded}
 use Rattle.file_definitions.specs.Elements.{each}
 use Rattle.network_file.specs.declared.pairs.TheConstants.{MAX_PAIRS}
+use Rattle.network_file.specs.declared.pairs.PairRow.{PairRow}
+use Rattle.network_file.specs.declared.losses.Losses.{Losses}
 use Rattle.network_file.specs.SectionTables.{SectionEntry}
 use Rattle.network_file.specs.Neighbours.{neighbour_of}
 
@@ -20,12 +22,6 @@ sizes_given sections s = unwrap_or (option_map (λ section. length section.sizes
 -- how many sizes the neighbour has; none at the fan
 abbrev pub sizes_beside : List SectionEntry → SectionEntry → Option ℕ
 sizes_beside sections section = option_map (sizes_given sections) (neighbour_of sections section)
-
--- What a pair of the file says, its sizes counted from 0; at the fan the neighbour's size is 0.
-pub record PairRow : Type 0 where
-  pub size : ℕ
-  pub beside : ℕ
-  pub pair : PairData
 
 -- the file counts sizes from 1
 abbrev pub size_in : ℕ → Data → Option ℕ
@@ -114,3 +110,7 @@ pairs_of_section sections section =
     let sizes = length section.sizes in
     let beside = sizes_beside sections section in
     cells_of sizes (columns_of beside) (rows_of sizes beside section.pairs)
+
+-- of each section its sizes and its pairs
+abbrev pub losses_in : List SectionEntry → Losses
+losses_in sections = record { sizes = map (λ section. section.sizes) sections; pairs = map (pairs_of_section sections) sections }

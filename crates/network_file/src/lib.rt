@@ -6,8 +6,13 @@
 
 mod fans;
 mod fault;
+mod losses;
+mod neighbours;
 mod pairs;
+mod reading;
 mod sections;
+mod sizes;
 mod top;
 
 pub use pairs::MAX_PAIRS;
+pub use reading::read_network;
