@@ -1,2 +1,3 @@
 pub mod StepLaws
 pub mod PartLaws
+pub mod PairLaws

@@ -3,11 +3,11 @@ use Rattle.std.proofs.Common.{◌≡◌, ℕ, List, [], ◌∷◌, map, Bool, no
 use Rattle.toml.specs.Data.{Members}
 use Rattle.duct_units.specs.declared.fault.Fault.{Fault}
 use Rattle.duct_units.specs.declared.fault.Reason.TheVariants.{Twice}
-use Rattle.duct_units.specs.Rules.{section_fault}
+use Rattle.duct_units.specs.Rules.{Rule, section_fault}
 use Rattle.name_index.specs.Places.{is_among}
 use Rattle.network_file.specs.FanTables.{fan_of, fan_names, fan_fault}
-use Rattle.network_file.specs.SectionTables.{entry_of, table_names}
-use Rattle.network_file.specs.Neighbours.{entry_names}
+use Rattle.network_file.specs.SectionTables.{SectionEntry, entry_of, table_names}
+use Rattle.network_file.specs.Neighbours.{entry_names, known_rules}
 
 abbrev pub is_new_fan : List Members → Members → Bool
 is_new_fan before table = not (is_among (fan_of table).name (fan_names before))
@@ -29,3 +29,7 @@ added_is_new name given names earlier added is all same = sym (is ∙ ap (λ ns.
 pub names_seen : (tables : List Members) → table_names tables ≡ entry_names (map entry_of tables)
 names_seen [] = refl
 names_seen (table ∷ tables) = ap (λ names. (entry_of table).name ∷ names) (names_seen tables)
+
+-- the rules of a section's neighbour, by the place of the section
+abbrev pub known_own : List (List ℕ) → ℕ → SectionEntry → List Rule
+known_own names n section = known_rules names n section.neighbour

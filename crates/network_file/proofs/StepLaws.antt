@@ -1,7 +1,7 @@
 -- One step of a reader: the rules of a part, and then whether its name is new.
-use Rattle.std.proofs.Common.{◌≡◌, ℕ, ◌+◌, ◌≤◌, List, [], ◌∷◌, ◌++◌, length, take, drop, map, Bool, true, false, not, Option, Some, None, Result, Ok, Err, refl, ap, ◌∙◌, sym, subst, arith, length-take-le}
+use Rattle.std.proofs.Common.{◌≡◌, ℕ, ◌+◌, ◌<◌, ◌≤◌, List, [], ◌∷◌, ◌++◌, length, take, drop, map, get_or, option_map, Bool, true, false, not, Option, Some, None, Result, Ok, Err, refl, ap, ◌∙◌, sym, subst, arith, length-take-le}
 use Rattle.std.specs.Prelude.{slice_get, if◌then◌else◌}
-use Rattle.std.proofs.lemmas.Option.{slice_get_within}
+use Rattle.std.proofs.lemmas.Option.{slice_get_within, slice_get-map, slice_get-get_or}
 use Rattle.duct_units.specs.declared.fault.Fault.{Fault}
 use Rattle.duct_units.specs.Rules.{Rule, first_broken, or_else, unless_refused}
 use Rattle.duct_units.proofs.RuleLaws.{first_broken-append}
@@ -104,3 +104,12 @@ pub numbered_holds : {A : Type 0} (own : ℕ → A → List Rule) (xs : List A) 
     → first_broken (own (i + 1) x) ≡ None → first_broken (each (numbered own) xs) ≡ first_broken (each_after (numbered own) (take (i + 1) xs) (drop (i + 1) xs))
 numbered_holds own xs i x so_far at none =
     so_far ∙ each_past (numbered own) xs i x at (subst (λ n. first_broken (own n x) ≡ None) (sym (place_of_element xs i x at)) none)
+
+-- the same of the list itself
+pub added : {A : Type 0} (xs : List A) (i : ℕ) (x : A) (ok : Bool) (old new : List A) → slice_get xs i ≡ Some x
+    → new ≡ (if ok then old ++ x ∷ [] else old) → ok ≡ true → old ≡ take i xs → new ≡ take (i + 1) xs
+added xs i x ok old new at is done so_far = is ∙ ap (λ b. if b then old ++ x ∷ [] else old) done ∙ ap (λ ys. ys ++ x ∷ []) so_far ∙ sym (take_at xs i x at)
+
+-- what stands at a place of a list that is seen through a view
+pub seen_at : {A B : Type 0} (view : A → B) (xs : List A) (i : ℕ) (d : A) → i < length xs → slice_get (map view xs) i ≡ Some (view (get_or xs i d))
+seen_at view xs i d within = slice_get-map view xs i ∙ ap (option_map view) (slice_get-get_or xs i d within)
