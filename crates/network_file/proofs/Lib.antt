@@ -1,3 +1,6 @@
 pub mod StepLaws
 pub mod PartLaws
 pub mod PairLaws
+pub mod SequenceLaws
+pub mod BesideLaws
+pub mod ValidLaws

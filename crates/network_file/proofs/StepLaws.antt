@@ -1,6 +1,7 @@
 -- One step of a reader: the rules of a part, and then whether its name is new.
 use Rattle.std.proofs.Common.{◌≡◌, ℕ, ◌+◌, ◌<◌, ◌≤◌, List, [], ◌∷◌, ◌++◌, length, take, drop, map, get_or, option_map, Bool, true, false, not, Option, Some, None, Result, Ok, Err, refl, ap, ◌∙◌, sym, subst, arith, length-take-le}
-use Rattle.std.specs.Prelude.{slice_get, if◌then◌else◌}
+use Rattle.std.specs.Prelude.{slice_get, if◌then◌else◌, All}
+use Rattle.std.proofs.lemmas.List.Elements.{All-same, All-push}
 use Rattle.std.proofs.lemmas.Option.{slice_get_within, slice_get-map, slice_get-get_or}
 use Rattle.duct_units.specs.declared.fault.Fault.{Fault}
 use Rattle.duct_units.specs.Rules.{Rule, first_broken, or_else, unless_refused}
@@ -113,3 +114,7 @@ added xs i x ok old new at is done so_far = is ∙ ap (λ b. if b then old ++ x 
 -- what stands at a place of a list that is seen through a view
 pub seen_at : {A B : Type 0} (view : A → B) (xs : List A) (i : ℕ) (d : A) → i < length xs → slice_get (map view xs) i ≡ Some (view (get_or xs i d))
 seen_at view xs i d within = slice_get-map view xs i ∙ ap (option_map view) (slice_get-get_or xs i d within)
+
+-- a fact that holds of what was read so far, and of what comes next
+pub all_grown : {A : Type 0} (P : A → Type 0) (ok : Bool) (old new : List A) (y : A) → new ≡ (if ok then old ++ y ∷ [] else old) → ok ≡ true → All P old → P y → All P new
+all_grown P ok old new y is done all one = All-same P new (old ++ y ∷ []) (is ∙ ap (λ b. if b then old ++ y ∷ [] else old) done) (All-push P old y all one)

@@ -25,11 +25,11 @@ entries doc = map entry_of (section_tables doc)
 abbrev pub network_rules : Members → List Rule
 network_rules doc =
     top_rules doc
-    ++ fans_rules (fan_tables doc)
-    ++ sections_rules (section_tables doc)
-    ++ neighbours_rules (entries doc)
-    ++ tree_rules (tree_of (entries doc))
-    ++ losses_rules (entries doc)
+    ++ (fans_rules (fan_tables doc)
+    ++ (sections_rules (section_tables doc)
+    ++ (neighbours_rules (entries doc)
+    ++ (tree_rules (tree_of (entries doc))
+    ++ losses_rules (entries doc)))))
 
 abbrev pub network_in : Members → Network
 network_in doc =

@@ -12,6 +12,7 @@ use Rattle.file_definitions.specs.Elements.{each}
 use Rattle.network_file.specs.declared.pairs.TheConstants.{MAX_PAIRS}
 use Rattle.network_file.specs.declared.pairs.PairRow.{PairRow}
 use Rattle.network_file.specs.declared.losses.Losses.{Losses}
+use Rattle.network_file.specs.declared.losses.OwnLosses.{OwnLosses}
 use Rattle.network_file.specs.SectionTables.{SectionEntry}
 use Rattle.network_file.specs.Neighbours.{neighbour_of}
 
@@ -79,11 +80,12 @@ sizes_rules n sizes =
 abbrev pub pairs_rules : ℕ → ℕ → Option ℕ → List (List Data) → List Rule
 pairs_rules n sizes beside pairs = at_section n (nat_le (length pairs) MAX_PAIRS) TooMany ∷ each (pair_rules n sizes beside) pairs
 
--- the sizes and the pairs of the section after these
+-- the sizes and the pairs of the n-th section
+abbrev pub own_rules : ℕ → Option ℕ → SectionEntry → List Rule
+own_rules n beside section = sizes_rules n section.sizes ++ pairs_rules n (length section.sizes) beside section.pairs
+
 abbrev pub loss_rules : List SectionEntry → List SectionEntry → SectionEntry → List Rule
-loss_rules sections before section =
-    let n = length before + 1 in
-    sizes_rules n section.sizes ++ pairs_rules n (length section.sizes) (sizes_beside sections section) section.pairs
+loss_rules sections before section = own_rules (length before + 1) (sizes_beside sections section) section
 
 abbrev pub losses_rules : List SectionEntry → List Rule
 losses_rules sections = each (loss_rules sections) sections
@@ -105,11 +107,14 @@ pair_in columns (row ∷ rows) cell = if cell_of columns row == cell then Some r
 abbrev pub cells_of : ℕ → ℕ → List PairRow → List (Option PairData)
 cells_of sizes columns rows = map (pair_in columns rows) (range_with_len 0 (sizes * columns))
 
+abbrev pub own_pairs : Option ℕ → SectionEntry → List (Option PairData)
+own_pairs beside section = let sizes = length section.sizes in cells_of sizes (columns_of beside) (rows_of sizes beside section.pairs)
+
+abbrev pub own_losses : Option ℕ → SectionEntry → OwnLosses
+own_losses beside section = record { sizes = section.sizes; pairs = own_pairs beside section }
+
 abbrev pub pairs_of_section : List SectionEntry → SectionEntry → List (Option PairData)
-pairs_of_section sections section =
-    let sizes = length section.sizes in
-    let beside = sizes_beside sections section in
-    cells_of sizes (columns_of beside) (rows_of sizes beside section.pairs)
+pairs_of_section sections section = own_pairs (sizes_beside sections section) section
 
 -- of each section its sizes and its pairs
 abbrev pub losses_in : List SectionEntry → Losses

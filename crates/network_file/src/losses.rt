@@ -1,9 +1,9 @@
 //! The sizes and pairs of all sections.
-ghost use Rattle.std.specs.Prelude.{◌≡◌, ◌<◌, ◌≤◌, [], length, map, option_map, unwrap_or, slice_get, All, IfSome};
+ghost use Rattle.std.specs.Prelude.{◌≡◌, ◌<◌, ◌≤◌, [], length, map, option_map, unwrap_or, slice_get, All, IfSome, IfOk};
 ghost use Rattle.duct_units.specs.Rules.{Gives, unless_refused, first_broken};
 ghost use Rattle.duct_definitions.specs.Tree.{section_count, neighbour};
 ghost use Rattle.network_file.specs.Neighbours.{tree_of};
-ghost use Rattle.network_file.specs.Pairs.{losses_rules, losses_in};
+ghost use Rattle.network_file.specs.Pairs.{losses_rules, losses_in, own_rules, own_losses};
 ghost use Rattle.network_file.specs.Seen.{entry_seen};
 
 use crate::pairs::read_pairs;
@@ -21,6 +21,13 @@ pub(crate) struct Losses {
     pub pairs: List<List<Option<Pair>>>,
 }
 
+/// The sizes of one section, and its pairs.
+#[derive(Drop)]
+pub(crate) struct OwnLosses {
+    pub sizes: List<Name>,
+    pub pairs: List<Option<Pair>>,
+}
+
 /// The sizes and pairs of the sections of a tree, or the first rule that is broken, section by section.
 pub(crate) fn read_losses(
     alloc: Global,
@@ -36,10 +43,9 @@ pub(crate) fn read_losses(
     let mut pairs = Vec::new(alloc);
     for i in 0..sections.len() {
         let place = i as u32 + 1;
-        let own = read_sizes(alloc, &sections[i].sizes, place)?;
         let beside = sizes_beside(tree, sizes.as_slice(), i as u32);
-        let given = read_pairs(alloc, &sections[i].pairs, own.as_slice().len(), beside, place)?;
-        if sizes.push(own).is_err() || pairs.push(given).is_err() {
+        let own = read_section(alloc, &sections[i], beside, place)?;
+        if sizes.push(own.sizes).is_err() || pairs.push(own.pairs).is_err() {
             return Err(ReadError::NoMemory);
         }
     }
@@ -49,6 +55,23 @@ pub(crate) fn read_losses(
     })
 }
 
+/// The sizes and the pairs of the section at a place, which stands beside so many sizes of its neighbour.
+fn read_section(
+    alloc: Global,
+    section: &SectionTable,
+    beside: Option<usize>,
+    place: u32,
+) -> Result<OwnLosses, ReadError>
+    requires { IfSome beside (λ n. n ≤ MAX_SIZES) }
+    ensures value { let entry = entry_seen section.now in
+        Gives result (unless_refused (first_broken (own_rules place beside entry)) (own_losses beside entry)) }
+    ensures few { IfOk result (λ losses. length losses.sizes ≤ MAX_SIZES) }
+{
+    let sizes = read_sizes(alloc, &section.sizes, place)?;
+    let pairs = read_pairs(alloc, &section.pairs, sizes.as_slice().len(), beside, place)?;
+    Ok(OwnLosses { sizes, pairs })
+}
+
 /// How many sizes the neighbour of a section has, whose sizes were read before; none at the fan.
 fn sizes_beside(tree: &AirTree, sizes: &[List<Name>], s: u32) -> Option<usize>
     requires section { s < section_count tree.now }
@@ -56,6 +79,7 @@ fn sizes_beside(tree: &AirTree, sizes: &[List<Name>], s: u32) -> Option<usize>
     requires few { All (λ names. length names ≤ MAX_SIZES) sizes.now }
     ensures value { result ≡ option_map (λ n. length (unwrap_or (slice_get sizes.now n) [])) (neighbour tree.now s) }
     ensures few { IfSome result (λ n. n ≤ MAX_SIZES) }
+    ensures earlier { IfSome (neighbour tree.now s) (λ n. n < s) }
 {
     let n = tree.neighbour(s)?;
     Some(sizes[n as usize].as_slice().len())
