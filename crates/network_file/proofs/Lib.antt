@@ -4,3 +4,5 @@ pub mod PairLaws
 pub mod SequenceLaws
 pub mod BesideLaws
 pub mod ValidLaws
+pub mod OrderLaws
+pub mod SeenLaws

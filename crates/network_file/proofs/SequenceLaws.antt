@@ -3,7 +3,7 @@ use Rattle.std.proofs.Common.{◌≡◌, ℕ, ◌+◌, take, drop, List, ◌++�
 use Rattle.duct_units.specs.declared.fault.Fault.{Fault}
 use Rattle.duct_units.specs.declared.fault.ReadError.{ReadError}
 use Rattle.duct_units.specs.declared.fault.ReadError.TheVariants.{Refused, NoMemory}
-use Rattle.duct_units.specs.Rules.{Rule, first_broken, or_else, unless_refused, Fails}
+use Rattle.duct_units.specs.Rules.{Rule, first_broken, or_else, unless_refused, Fails, Gives}
 use Rattle.duct_units.proofs.RuleLaws.{first_broken-append}
 use Rattle.std.specs.Prelude.{slice_get}
 use Rattle.file_definitions.specs.Elements.{each, each_after}
@@ -49,3 +49,8 @@ pub each_stops : {A : Type 0} (error : ReadError) (own : ℕ → A → List Rule
     → first_broken (each (numbered own) xs) ≡ first_broken (each_after (numbered own) (take i xs) (drop i xs)) → slice_get xs i ≡ Some x → Stops error (own (i + 1) x) → Stops error (each (numbered own) xs)
 each_stops (Refused fault) own xs i x so_far at e = numbered_broken own xs i x fault so_far at e
 each_stops NoMemory own xs i x so_far at e = tt
+
+-- the last part, after some that hold
+pub gives_later : {X : Type 0} (result : Result X ReadError) (a b : List Rule) (x : X) → first_broken a ≡ None → Gives result (unless_refused (first_broken b) x) → Gives result (unless_refused (first_broken (a ++ b)) x)
+gives_later (Ok got) a b x none e = ap (λ o. unless_refused o x) (first_broken-append a b ∙ ap (λ o. or_else o (first_broken b)) none) ∙ e
+gives_later (Err error) a b x none e = stops_gives error (a ++ b) x (stops_later error a b none (stops_from error b x e))

@@ -1,8 +1,8 @@
 -- The neighbours of the sections of a network file, by name and by number.
-use Rattle.std.specs.Prelude.{ℕ, ◌+◌, List, [], ◌∷◌, map, length, Bool, true, Option, Some, None, option_and_then}
+use Rattle.std.specs.Prelude.{ℕ, ◌+◌, List, [], ◌∷◌, ◌++◌, map, length, Bool, true, Option, Some, None, option_and_then}
 use Rattle.duct_units.specs.declared.fault.Reason.TheVariants.{UnknownNeighbour}
 use Rattle.duct_units.specs.Rules.{Rule, at_section}
-use Rattle.duct_definitions.specs.Tree.{Tree}
+use Rattle.duct_definitions.specs.Tree.{Tree, tree_rules}
 use Rattle.name_index.specs.Places.{place_of, is_among}
 use Rattle.file_definitions.specs.Elements.{each}
 use Rattle.network_file.specs.SectionTables.{SectionEntry}
@@ -35,3 +35,7 @@ neighbours_rules sections = each (neighbour_rules sections) sections
 
 abbrev pub tree_of : List SectionEntry → Tree
 tree_of sections = record { neighbours = map (neighbour_of sections) sections; sides = map (λ section. section.side) sections }
+
+-- each neighbour is a section, and together they are a tree
+abbrev pub trees_rules : List SectionEntry → List Rule
+trees_rules sections = neighbours_rules sections ++ tree_rules (tree_of sections)

@@ -8,28 +8,26 @@ use Rattle.toml.specs.Data.{Members}
 use Rattle.duct_units.specs.declared.fault.Fault.{Fault}
 use Rattle.duct_units.specs.declared.fault.Reason.TheVariants.{Text}
 use Rattle.duct_units.specs.Rules.{Rule, file_fault, first_broken, unless_refused}
-use Rattle.duct_definitions.specs.Tree.{tree_rules}
 use Rattle.duct_definitions.specs.Network.{Network}
 use Rattle.file_definitions.specs.Document.{document_of}
 use Rattle.network_file.specs.TopTable.{top_rules, network_name, fan_tables, section_tables}
 use Rattle.network_file.specs.FanTables.{fans_rules, fan_of}
 use Rattle.network_file.specs.SectionTables.{SectionEntry, sections_rules, entry_of}
-use Rattle.network_file.specs.Neighbours.{neighbours_rules, tree_of, entry_names}
+use Rattle.network_file.specs.Neighbours.{trees_rules, tree_of, entry_names}
 use Rattle.network_file.specs.Pairs.{losses_rules, pairs_of_section}
 
 -- the sections, as their tables say
 abbrev pub entries : Members → List SectionEntry
 entries doc = map entry_of (section_tables doc)
 
--- the top table; the fans; the sections; their neighbours; the tree; their sizes and pairs
+-- the top table; the fans; the sections; their neighbours and the tree; their sizes and pairs
 abbrev pub network_rules : Members → List Rule
 network_rules doc =
     top_rules doc
     ++ (fans_rules (fan_tables doc)
     ++ (sections_rules (section_tables doc)
-    ++ (neighbours_rules (entries doc)
-    ++ (tree_rules (tree_of (entries doc))
-    ++ losses_rules (entries doc)))))
+    ++ (trees_rules (entries doc)
+    ++ losses_rules (entries doc))))
 
 abbrev pub network_in : Members → Network
 network_in doc =

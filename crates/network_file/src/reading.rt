@@ -1,17 +1,20 @@
 //! The order of the reading: the document, the top table, the fans, the sections, their neighbours, the tree, and
 //! the sizes and pairs.
 ghost use Rattle.toml.specs.View.{table_view};
-ghost use Rattle.duct_units.specs.Rules.{Gives};
+ghost use Rattle.duct_units.specs.Rules.{Gives, unless_refused, first_broken};
+ghost use Rattle.network_file.specs.Neighbours.{entry_names, trees_rules, tree_of};
 ghost use Rattle.network_file.specs.NetworkFile.{network_of, reading};
-ghost use Rattle.std.specs.Prelude.{◌≡◌, Some, map, IfOk};
+ghost use Rattle.network_file.specs.Seen.{sections_seen};
+ghost use Rattle.std.specs.Prelude.{◌≡◌, ◌≤◌, Some, length, map, IfOk};
 
 use crate::fans::read_fans;
 use crate::fault::file_fault;
 use crate::losses::read_losses;
 use crate::neighbours::read_neighbours;
-use crate::sections::{SectionTable, read_sections};
+use crate::sections::{SectionTable, Sections, read_sections};
 use crate::top::read_top;
 use air_tree::AirTree;
+use duct_definitions::MAX_SECTIONS;
 use duct_units::{List, NoMemory, ReadError, Reason, Side};
 use net_model::Network;
 use std::alloc::Global;
@@ -45,11 +48,8 @@ fn network_in(alloc: Global, document: &Table) -> Result<Network, ReadError>
         Ok(sections) => sections,
         Err(error) => return Err(error),
     };
-    let tables = sections.tables.as_slice();
-    let neighbours = read_neighbours(alloc, tables, &sections.names)?;
-    let sides = sides_of(alloc, tables)?;
-    let tree = AirTree::new(alloc, neighbours, sides)?;
-    let losses = read_losses(alloc, tables, &tree)?;
+    let tree = read_tree(alloc, &sections)?;
+    let losses = read_losses(alloc, sections.tables.as_slice(), &tree)?;
     Ok(Network::new(
         top.name,
         tree,
@@ -58,6 +58,19 @@ fn network_in(alloc: Global, document: &Table) -> Result<Network, ReadError>
         losses.pairs,
         fans,
     ))
+}
+
+/// The tree of the sections, or the first rule of a tree that they break.
+fn read_tree(alloc: Global, sections: &Sections) -> Result<AirTree, ReadError>
+    requires few { length sections.now.tables.items ≤ MAX_SECTIONS }
+    requires names { sections.now.names ≡ entry_names (sections_seen sections.now) }
+    ensures { let entries = sections_seen sections.now in
+        Gives result (unless_refused (first_broken (trees_rules entries)) (tree_of entries)) }
+{
+    let tables = sections.tables.as_slice();
+    let neighbours = read_neighbours(alloc, tables, &sections.names)?;
+    let sides = sides_of(alloc, tables)?;
+    AirTree::new(alloc, neighbours, sides)
 }
 
 /// The side of each section.

@@ -43,6 +43,7 @@ pub(crate) fn read_sections<'t>(
     ensures value { let sections = tables_in tables.now in
         GivesAs sections_seen result (unless_refused (first_broken (sections_rules sections)) (map entry_of sections)) }
     ensures names { IfOk result (λ sections. sections.names ≡ entry_names (sections_seen sections)) }
+    ensures few { IfOk result (λ sections. length sections.tables.items ≤ MAX_SECTIONS) }
 {
     if tables.len() > MAX_SECTIONS {
         return Err(ReadError::Refused(file_fault(Reason::TooMany)));
@@ -56,6 +57,7 @@ fn read_each<'t>(alloc: Global, tables: &Tables<'t>) -> Result<Sections<'t>, Rea
     ensures value { let sections = tables_in tables.now in
         GivesAs sections_seen result (unless_refused (first_broken (each section_rules sections)) (map entry_of sections)) }
     ensures names { IfOk result (λ sections. sections.names ≡ entry_names (sections_seen sections)) }
+    ensures few { IfOk result (λ sections. length sections.tables.items ≤ MAX_SECTIONS) }
 {
     let mut names = NameIndex::new(alloc);
     let mut sections = Vec::new(alloc);
