@@ -30,22 +30,22 @@ pub at_sections : (error : ReadError) (doc : Members) → first_broken (top_rule
     → Stops error (network_rules doc)
 at_sections error doc top fans stops =
     stops_later error (top_rules doc) (after_top doc) top (stops_later error (fans_rules (fan_tables doc)) (after_fans doc) fans
-      (stops_first error (sections_rules (section_tables doc)) (after_sections doc) stops))
+    (stops_first error (sections_rules (section_tables doc)) (after_sections doc) stops))
 
 pub at_tree : (error : ReadError) (doc : Members) → first_broken (top_rules doc) ≡ None → first_broken (fans_rules (fan_tables doc)) ≡ None → first_broken (sections_rules (section_tables doc)) ≡ None
     → Stops error (trees_rules (entries doc)) → Stops error (network_rules doc)
 at_tree error doc top fans sections stops =
     stops_later error (top_rules doc) (after_top doc) top (stops_later error (fans_rules (fan_tables doc)) (after_fans doc) fans
-      (stops_later error (sections_rules (section_tables doc)) (after_sections doc) sections (stops_first error (trees_rules (entries doc)) (losses_rules (entries doc)) stops)))
+    (stops_later error (sections_rules (section_tables doc)) (after_sections doc) sections (stops_first error (trees_rules (entries doc)) (losses_rules (entries doc)) stops)))
 
 pub at_losses : (error : ReadError) (doc : Members) → first_broken (top_rules doc) ≡ None → first_broken (fans_rules (fan_tables doc)) ≡ None → first_broken (sections_rules (section_tables doc)) ≡ None
     → first_broken (trees_rules (entries doc)) ≡ None → Stops error (losses_rules (entries doc)) → Stops error (network_rules doc)
 at_losses error doc top fans sections tree stops =
     stops_later error (top_rules doc) (after_top doc) top (stops_later error (fans_rules (fan_tables doc)) (after_fans doc) fans
-      (stops_later error (sections_rules (section_tables doc)) (after_sections doc) sections (stops_later error (trees_rules (entries doc)) (losses_rules (entries doc)) tree stops)))
+    (stops_later error (sections_rules (section_tables doc)) (after_sections doc) sections (stops_later error (trees_rules (entries doc)) (losses_rules (entries doc)) tree stops)))
 
 pub none_broken : (doc : Members) → first_broken (top_rules doc) ≡ None → first_broken (fans_rules (fan_tables doc)) ≡ None → first_broken (sections_rules (section_tables doc)) ≡ None
     → first_broken (trees_rules (entries doc)) ≡ None → first_broken (losses_rules (entries doc)) ≡ None → first_broken (network_rules doc) ≡ None
 none_broken doc top fans sections tree losses =
     all_hold (top_rules doc) (after_top doc) top (all_hold (fans_rules (fan_tables doc)) (after_fans doc) fans
-      (all_hold (sections_rules (section_tables doc)) (after_sections doc) sections (all_hold (trees_rules (entries doc)) (losses_rules (entries doc)) tree losses)))
+    (all_hold (sections_rules (section_tables doc)) (after_sections doc) sections (all_hold (trees_rules (entries doc)) (losses_rules (entries doc)) tree losses)))

@@ -58,11 +58,12 @@ cells_of-push sizes columns rows row empty =
     map_set (pair_in columns rows) (pair_in columns (rows ++ row ∷ [])) 0 (sizes * columns) (cell_of columns row) (Some row.pair)
     (λ k apart. pair_in-push columns rows row k ∙ elsewhere (pair_in columns rows k) (cell_of columns row == k) row.pair (apart_false (cell_of columns row) k (λ e. apart (sym e ∙ omega arith))))
     (ap (pair_in columns (rows ++ row ∷ [])) (omega arith) ∙ pair_in-push columns rows row (cell_of columns row)
-      ∙ ap (λ o. or_row o (cell_of columns row == cell_of columns row) row.pair) empty ∙ ap (λ b. cond b (Some row.pair) None) (eq-eqb (cell_of columns row) (cell_of columns row) refl))
+    ∙ ap (λ o. or_row o (cell_of columns row == cell_of columns row) row.pair) empty ∙ ap (λ b. cond b (Some row.pair) None) (eq-eqb (cell_of columns row) (cell_of columns row) refl))
   where
     elsewhere : (o : Option Pair) (b : Bool) (last : Pair) → b ≡ false → or_row o b last ≡ o
     elsewhere (Some p) b last e = refl
     elsewhere None b last e = ap (λ b. cond b (Some last) None) e
+
     apart_false : (a b : ℕ) → (a ≡ b → ⊥) → (a == b) ≡ false
     apart_false a b apart = elim (a == b) as (λ t. (a == b) ≡ t → t ≡ false) [ true ↦ λ e. absurd (apart (eqb-true a b e)) | false ↦ λ e. refl ] refl
 
@@ -70,12 +71,14 @@ cells_of-push sizes columns rows row empty =
 one_cell : (columns : ℕ) (row other : PairRow) → row.beside < columns → other.beside < columns → (cell_of columns other == cell_of columns row) ≡ same_sizes row other
 one_cell columns row other within too =
     let Same : Type 0 = (row.size ≡ other.size) × (row.beside ≡ other.beside) in
-    let by_cell : Decides (cell_of columns other == cell_of columns row) Same =
-        (λ e. let places = same_from_place other.size other.beside row.size row.beside columns too within (eqb-true (cell_of columns other) (cell_of columns row) e) in (sym places.0, sym places.1),
-         λ same. eq-eqb (cell_of columns other) (cell_of columns row) (ap (λ size. size * columns + other.beside) (sym same.0) ∙ ap (λ beside. row.size * columns + beside) (sym same.1))) in
-    let by_sizes : Decides (same_sizes row other) Same =
-        (λ e. let parts = both_true (row.size == other.size) (row.beside == other.beside) e in (eqb-true row.size other.size parts.0, eqb-true row.beside other.beside parts.1),
-         λ same. ap (λ b. b && (row.beside == other.beside)) (eq-eqb row.size other.size same.0) ∙ eq-eqb row.beside other.beside same.1) in
+    let by_cell : Decides (cell_of columns other == cell_of columns row) Same = (
+      λ e. let places = same_from_place other.size other.beside row.size row.beside columns too within (eqb-true (cell_of columns other) (cell_of columns row) e) in (sym places.0, sym places.1),
+      λ same. eq-eqb (cell_of columns other) (cell_of columns row) (ap (λ size. size * columns + other.beside) (sym same.0) ∙ ap (λ beside. row.size * columns + beside) (sym same.1)),
+    ) in
+    let by_sizes : Decides (same_sizes row other) Same = (
+      λ e. let parts = both_true (row.size == other.size) (row.beside == other.beside) e in (eqb-true row.size other.size parts.0, eqb-true row.beside other.beside parts.1),
+      λ same. ap (λ b. b && (row.beside == other.beside)) (eq-eqb row.size other.size same.0) ∙ eq-eqb row.beside other.beside same.1,
+    ) in
     same_from_decides _ (same_sizes row other) by_cell by_sizes
   where
     both_true : (a b : Bool) → (a && b) ≡ true → (a ≡ true) × (b ≡ true)
@@ -137,8 +140,7 @@ pub looked : (sizes columns : ℕ) (rows : List PairRow) (row : PairRow) (cells 
     → All (λ (other : PairRow). other.beside < columns) rows → seen ≡ get_or cells (cell_of columns row) seen → list_any (same_sizes row) rows ≡ is_some seen
 looked sizes columns rows row cells seen is size beside all at =
     sym (ap is_some (at ∙ ap (λ cs. get_or cs (cell_of columns row) seen) is ∙ cells_of-at sizes columns rows (cell_of columns row) seen (in_cells sizes columns row size beside))
-      ∙ taken columns rows row beside all)
-
+    ∙ taken columns rows row beside all)
 
 -- where they weren't, the cell is empty, and the row is put there
 pub put : (sizes columns : ℕ) (rows more : List PairRow) (row : PairRow) (cells : List (Option Pair)) → cells ≡ cells_of sizes columns rows → more ≡ rows ++ row ∷ [] → row.beside < columns

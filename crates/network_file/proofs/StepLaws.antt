@@ -44,7 +44,7 @@ pub own_broken : {A : Type 0} (own : ℕ → A → List Rule) (new : List A → 
 own_broken own new fault xs i x broken so_far at some =
     so_far ∙ each_here (named own new fault) xs i x broken at
     (then_last (own (length (take i xs) + 1) x) (new (take i xs) x) (fault (length (take i xs) + 1)) (Some broken) (new (take i xs) x)
-      (subst (λ n. first_broken (own n x) ≡ Some broken) (sym (place_of_element xs i x at)) some) refl)
+    (subst (λ n. first_broken (own n x) ≡ Some broken) (sym (place_of_element xs i x at)) some) refl)
 
 -- or it isn't new
 pub not_new : {A : Type 0} (own : ℕ → A → List Rule) (new : List A → A → Bool) (fault : ℕ → Fault) (xs : List A) (i : ℕ) (x : A)
@@ -53,7 +53,7 @@ pub not_new : {A : Type 0} (own : ℕ → A → List Rule) (new : List A → A �
 not_new own new fault xs i x so_far at none old =
     so_far ∙ each_here (named own new fault) xs i x (fault (i + 1)) at
     (then_last (own (length (take i xs) + 1) x) (new (take i xs) x) (fault (length (take i xs) + 1)) None false
-      (subst (λ n. first_broken (own n x) ≡ None) (sym (place_of_element xs i x at)) none) old
+    (subst (λ n. first_broken (own n x) ≡ None) (sym (place_of_element xs i x at)) none) old
     ∙ ap (λ n. Some (fault n)) (place_of_element xs i x at))
 
 -- or it is in order, and the first broken rule is a later element's
@@ -64,7 +64,7 @@ pub in_order : {A : Type 0} (own : ℕ → A → List Rule) (new : List A → A 
 in_order own new fault xs i x so_far at none new_one =
     so_far ∙ each_past (named own new fault) xs i x at
     (then_last (own (length (take i xs) + 1) x) (new (take i xs) x) (fault (length (take i xs) + 1)) None true
-      (subst (λ n. first_broken (own n x) ≡ None) (sym (place_of_element xs i x at)) none) new_one)
+    (subst (λ n. first_broken (own n x) ≡ None) (sym (place_of_element xs i x at)) none) new_one)
 
 -- the elements up to the next one, mapped
 pub map_next : {A B : Type 0} (f : A → B) (xs : List A) (i : ℕ) (x : A) → slice_get xs i ≡ Some x → map f (take (i + 1) xs) ≡ map f (take i xs) ++ f x ∷ []

@@ -151,9 +151,11 @@ sizes_hold : (n : ℕ) (sizes : List (List ℕ)) → first_broken (sizes_rules n
     → (1 ≤ length sizes) × (length sizes ≤ MAX_SIZES) × ((k : ℕ) (name : List ℕ) → slice_get sizes k ≡ Some name → is_among name (take k sizes) ≡ false)
 sizes_hold n sizes none =
     let some = rule_holds _ _ _ none in
-    let few = rule_holds _ _ _ some.1 in
-    (leb-true 1 (length sizes) some.0, leb-true (length sizes) MAX_SIZES few.0,
-     λ k name at. let new = rule_holds _ _ _ (each_holds (size_rules n) sizes k name few.1 at) in not_true _ new.0)
+    let few = rule_holds _ _ _ some.1 in (
+      leb-true 1 (length sizes) some.0,
+      leb-true (length sizes) MAX_SIZES few.0,
+      λ k name at. let new = rule_holds _ _ _ (each_holds (size_rules n) sizes k name few.1 at) in not_true _ new.0,
+    )
 
 -- each name of an array of names has the form
 named_values : (values : List Data) (k : ℕ) (name : List ℕ) → slice_get (unwrap_or (all_of name_in values) []) k ≡ Some name → IsTrue (is_name name)
@@ -169,9 +171,11 @@ named_values values k name at = of_all (all_of name_in values) refl at
             in_form : (b : Bool) (bytes : List ℕ) → is_name bytes ≡ b → cond b (Some bytes) None ≡ Some name → IsTrue (is_name name)
             in_form true bytes is e = let same : bytes ≡ name = cc in subst (λ n. IsTrue (is_name n)) same is
             in_form false bytes is e = cc
+
     of_value : (o : Option Data) → option_and_then name_in o ≡ Some name → IsTrue (is_name name)
     of_value None e = cc
     of_value (Some value) e = of_text value (as_str value) refl e
+
     of_all : (o : Option (List (List ℕ))) → all_of name_in values ≡ o → slice_get (unwrap_or o []) k ≡ Some name → IsTrue (is_name name)
     of_all None is e = cc
     of_all (Some names) is e = of_value (slice_get values k) (all_of-at name_in values names k is ∙ e)
@@ -243,6 +247,7 @@ size_form tables s k section name at is = of_table (slice_get tables s) (sym (sl
     of_items : (o : Option (List Data)) → slice_get (unwrap_or (option_and_then (all_of name_in) o) []) k ≡ Some name → IsTrue (is_name name)
     of_items None e = cc
     of_items (Some values) e = named_values values k name e
+
     of_table : (o : Option Members) → option_map entry_of o ≡ Some section → IsTrue (is_name name)
     of_table None e = cc
     of_table (Some table) e =
@@ -265,9 +270,9 @@ section_is doc s section none at =
       few = subst (λ (names : List (List ℕ)). length names ≤ MAX_SIZES) (sym same) sizes.1;
       sizes = subst AreNames (sym same) names;
       pairs = ap length (pairs_at sections s section at) ∙ length-cells_of (length section.sizes) (columns_of (sizes_beside sections section)) (rows_of (length section.sizes) (sizes_beside sections section) section.pairs)
-        ∙ ap (λ (names : List (List ℕ)). length names * columns_of (sizes_beside sections section)) (sym same) ∙ ap (λ c. size_count (network_in doc) s * c) (sym (columns_at doc s section at));
+          ∙ ap (λ (names : List (List ℕ)). length names * columns_of (sizes_beside sections section)) (sym same) ∙ ap (λ c. size_count (network_in doc) s * c) (sym (columns_at doc s section at));
       bounds = subst (λ (cells : List (Option Pair)). All IsBounded cells) (sym (pairs_at sections s section at))
-        (all_map IsBounded (pair_in (columns_of (sizes_beside sections section)) (rows_of (length section.sizes) (sizes_beside sections section) section.pairs))
+          (all_map IsBounded (pair_in (columns_of (sizes_beside sections section)) (rows_of (length section.sizes) (sizes_beside sections section) section.pairs))
           (range_with_len 0 (length section.sizes * columns_of (sizes_beside sections section)))
           (λ k cell here. cell_bounded (length section.sizes) (sizes_beside sections section) section.pairs (columns_of (sizes_beside sections section)) cell));
     }
@@ -305,13 +310,13 @@ is_network doc none =
       name = top_name doc at_top.0;
       tree = record { sides = length-map sections (λ (section : SectionEntry). section.side) ∙ sym (length-map sections (neighbour_of sections)); rules = tree.1 };
       names = subst AreNames (names_seen tables) (are_names (λ table. (entry_of table).name) tables
-        (λ k table at. let holds = section_holds tables k table few_sections.1 at in (name_form (text_at (codes "name") table) holds.0, holds.1)));
+          (λ k table at. let holds = section_holds tables k table few_sections.1 at in (name_form (text_at (codes "name") table) holds.0, holds.1)));
       name_count = length-map sections (λ (section : SectionEntry). section.name) ∙ sym (length-map sections (neighbour_of sections));
       size_lists = length-map sections (λ (section : SectionEntry). section.sizes) ∙ sym (length-map sections (neighbour_of sections));
       pair_lists = length-map sections (pairs_of_section sections) ∙ sym (length-map sections (neighbour_of sections));
       sections = λ s within. section_is doc s (get_or sections s no_section) at_tree.1 (slice_get-get_or sections s no_section (subst (λ n. s < n) (length-map sections (neighbour_of sections)) within));
       fan_names = subst AreNames (fan_names_seen fans) (are_names (λ table. (fan_of table).name) fans
-        (λ k table at. let holds = fan_holds fans k table few_fans.1 at in (name_form (text_at (codes "name") table) holds.0, holds.2)));
+          (λ k table at. let holds = fan_holds fans k table few_fans.1 at in (name_form (text_at (codes "name") table) holds.0, holds.2)));
       fans = all_map IsFan fan_of fans (λ k table at. (fan_holds fans k table few_fans.1 at).1);
       few_fans = subst (λ n. n ≤ MAX_FANS) (sym (length-map fans fan_of)) (leb-true (length fans) MAX_FANS few_fans.0);
     }

@@ -38,7 +38,7 @@ pub(crate) fn read_pairs(
     requires beside { IfSome beside (λ n. n ≤ MAX_SIZES) }
     ensures { let given = arrays_in pairs.now in
         Gives result (unless_refused (first_broken (pairs_rules place sizes beside given))
-            (cells_of sizes (columns_of beside) (rows_of sizes beside given))) }
+        (cells_of sizes (columns_of beside) (rows_of sizes beside given))) }
 {
     if pairs.len() > MAX_PAIRS {
         return Err(ReadError::Refused(section_fault(place, Reason::TooMany)));
@@ -58,7 +58,7 @@ fn read_each(
     requires beside { IfSome beside (λ n. n ≤ MAX_SIZES) }
     ensures { let given = arrays_in pairs.now in
         Gives result (unless_refused (first_broken (each (pair_rules place sizes beside) given))
-            (cells_of sizes (columns_of beside) (rows_of sizes beside given))) }
+        (cells_of sizes (columns_of beside) (rows_of sizes beside given))) }
 {
     let columns = columns_of(beside);
     let mut cells = no_pairs(alloc, sizes * columns)?;

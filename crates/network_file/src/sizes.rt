@@ -13,11 +13,7 @@ use std::alloc::Global;
 use toml_fields::Names;
 
 /// The sizes of the section at a place, or the first rule that is broken: none, too many, or two of one name.
-pub(crate) fn read_sizes(
-    alloc: Global,
-    names: &Names,
-    place: u32,
-) -> Result<List<Name>, ReadError>
+pub(crate) fn read_sizes(alloc: Global, names: &Names, place: u32) -> Result<List<Name>, ReadError>
     ensures value { let sizes = names_in names.now in
         Gives result (unless_refused (first_broken (sizes_rules place sizes)) sizes) }
     ensures few { IfOk result (λ sizes. length sizes ≤ MAX_SIZES) }

@@ -23,13 +23,13 @@ returns-in_err-own c =
     let within : c.loop-i.i < length sections = omega arith in
     let at = seen_at entry_seen sections c.loop-i.i c.index-sections-i.result within ∙ ap (λ table. Some (entry_seen table)) (sym c.index-sections-i.is) in
     let beside = found_beside entries c.loop-i.i section c.loop-i.sizes.items c.sizes_beside-beside.result at c.loop-i.invariant.sizes
-        (subst (λ (tree : Tree). IfSome (neighbour tree c.loop-i.i) (λ n. n < c.loop-i.i)) c.requires.tree c.sizes_beside-beside.ensures.earlier)
-        (c.sizes_beside-beside.ensures.value
-          ∙ ap (λ sizes. option_map (λ n. length (unwrap_or (slice_get sizes n) [])) (neighbour c.args.tree.now c.loop-i.i)) c.as_slice.ensures.value
-          ∙ ap (λ (tree : Tree). option_map (λ n. length (unwrap_or (slice_get c.loop-i.sizes.items n) [])) (neighbour tree c.loop-i.i)) c.requires.tree) in
+    (subst (λ (tree : Tree). IfSome (neighbour tree c.loop-i.i) (λ n. n < c.loop-i.i)) c.requires.tree c.sizes_beside-beside.ensures.earlier)
+    (c.sizes_beside-beside.ensures.value
+    ∙ ap (λ sizes. option_map (λ n. length (unwrap_or (slice_get sizes n) [])) (neighbour c.args.tree.now c.loop-i.i)) c.as_slice.ensures.value
+    ∙ ap (λ (tree : Tree). option_map (λ n. length (unwrap_or (slice_get c.loop-i.sizes.items n) [])) (neighbour tree c.loop-i.i)) c.requires.tree) in
     let stops : Stops error (own_rules (c.loop-i.i + 1) c.sizes_beside-beside.result section) = stops_from error (own_rules (c.loop-i.i + 1) c.sizes_beside-beside.result section) (own_losses c.sizes_beside-beside.result section) c.in_err-own.ensures.value in
     let fails = stops_gives error (losses_rules entries) (losses_in entries) (each_stops error (loss_own entries) entries c.loop-i.i section c.loop-i.invariant.rules at
-        (subst (λ found. Stops error (own_rules (c.loop-i.i + 1) found section)) beside stops)) in
+    (subst (λ found. Stops error (own_rules (c.loop-i.i + 1) found section)) beside stops)) in
     search (rules, fails)
 
 pub loop-i-preserved : goal.loop-i-preserved
@@ -40,10 +40,10 @@ loop-i-preserved c =
     let within : c.loop-i.i < length sections = omega arith in
     let at = seen_at entry_seen sections c.loop-i.i c.index-sections-i.result within ∙ ap (λ table. Some (entry_seen table)) (sym c.index-sections-i.is) in
     let beside = found_beside entries c.loop-i.i section c.loop-i.sizes.items c.sizes_beside-beside.result at c.loop-i.invariant.sizes
-        (subst (λ (tree : Tree). IfSome (neighbour tree c.loop-i.i) (λ n. n < c.loop-i.i)) c.requires.tree c.sizes_beside-beside.ensures.earlier)
-        (c.sizes_beside-beside.ensures.value
-          ∙ ap (λ sizes. option_map (λ n. length (unwrap_or (slice_get sizes n) [])) (neighbour c.args.tree.now c.loop-i.i)) c.as_slice.ensures.value
-          ∙ ap (λ (tree : Tree). option_map (λ n. length (unwrap_or (slice_get c.loop-i.sizes.items n) [])) (neighbour tree c.loop-i.i)) c.requires.tree) in
+    (subst (λ (tree : Tree). IfSome (neighbour tree c.loop-i.i) (λ n. n < c.loop-i.i)) c.requires.tree c.sizes_beside-beside.ensures.earlier)
+    (c.sizes_beside-beside.ensures.value
+    ∙ ap (λ sizes. option_map (λ n. length (unwrap_or (slice_get sizes n) [])) (neighbour c.args.tree.now c.loop-i.i)) c.as_slice.ensures.value
+    ∙ ap (λ (tree : Tree). option_map (λ n. length (unwrap_or (slice_get c.loop-i.sizes.items n) [])) (neighbour tree c.loop-i.i)) c.requires.tree) in
     let read = given (first_broken (own_rules (c.loop-i.i + 1) c.sizes_beside-beside.result section)) (own_losses c.sizes_beside-beside.result section) c.in_ok-own.own c.in_ok-own.ensures.value in
     record {
       end = c.loop-i.invariant.end;
@@ -51,5 +51,5 @@ loop-i-preserved c =
       few = all_grown (λ sizes. length sizes ≤ MAX_SIZES) _ _ _ _ c.push.ensures.items (c.is_err.ensures.negation ∙ ap not c.if-is_err.false) c.loop-i.invariant.few c.in_ok-own.ensures.few;
       sizes = grown (λ (section : SectionEntry). section.sizes) entries c.loop-i.i section _ _ _ _ at c.push.ensures.items (c.is_err.ensures.negation ∙ ap not c.if-is_err.false) c.loop-i.invariant.sizes (ap (λ (own : OwnLosses). own.sizes) read.1);
       pairs = grown (pairs_of_section entries) entries c.loop-i.i section _ _ _ _ at c.push-else-is_err.ensures.items (c.is_err-else-is_err.ensures.negation ∙ ap not c.if-is_err-2.false) c.loop-i.invariant.pairs
-        (ap (λ (own : OwnLosses). own.pairs) read.1 ∙ ap (λ found. own_pairs found section) beside);
+          (ap (λ (own : OwnLosses). own.pairs) read.1 ∙ ap (λ found. own_pairs found section) beside);
     }

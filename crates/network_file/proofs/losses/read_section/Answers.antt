@@ -19,7 +19,7 @@ returns-in_err-pairs-clause-value c =
     let count = ap length (c.as_slice.ensures ∙ read.1) in
     let later = stops_from c.in_err-pairs.field-0.0 (pairs_rules c.args.place (length c.as_slice.result.now) c.args.beside entry.pairs) _ c.in_err-pairs.ensures in
     let stops = stops_later c.in_err-pairs.field-0.0 (sizes_rules c.args.place entry.sizes) (pairs_rules c.args.place (length entry.sizes) c.args.beside entry.pairs) read.0
-        (subst (λ n. Stops c.in_err-pairs.field-0.0 (pairs_rules c.args.place n c.args.beside entry.pairs)) count later) in
+    (subst (λ n. Stops c.in_err-pairs.field-0.0 (pairs_rules c.args.place n c.args.beside entry.pairs)) count later) in
     let fails = stops_gives c.in_err-pairs.field-0.0 (own_rules c.args.place c.args.beside entry) (own_losses c.args.beside entry) stops in
     search (rules, fails)
 
@@ -30,6 +30,6 @@ returns-clause-value c =
     let count = ap length (c.as_slice.ensures ∙ read.1) in
     let later = given _ _ _ c.in_ok-pairs.ensures in
     let hold = all_hold (sizes_rules c.args.place entry.sizes) (pairs_rules c.args.place (length entry.sizes) c.args.beside entry.pairs) read.0
-        (subst (λ n. first_broken (pairs_rules c.args.place n c.args.beside entry.pairs) ≡ None) count later.0) in
+    (subst (λ n. first_broken (pairs_rules c.args.place n c.args.beside entry.pairs) ≡ None) count later.0) in
     let cells = later.1 ∙ ap (λ n. cells_of n (columns_of c.args.beside) (rows_of n c.args.beside entry.pairs)) count in
     ap (λ o. unless_refused o (own_losses c.args.beside entry)) hold ∙ cc (read.1, cells)

@@ -16,8 +16,8 @@ returns-in_err-neighbour c =
     let within : c.loop-i.i < length sections = omega arith in
     let fails = read_err _ _ _ c.in_err-neighbour.ensures in
     let broken = numbered_broken (known_own (entry_names entries)) entries c.loop-i.i (entry_seen section) _ c.loop-i.invariant.rules
-        (seen_at entry_seen sections c.loop-i.i c.index-sections-i.result within)
-        (sym (ap (λ names. first_broken (known_rules names (c.loop-i.i + 1) section.neighbour)) c.requires.names) ∙ fails) in
+    (seen_at entry_seen sections c.loop-i.i c.index-sections-i.result within)
+    (sym (ap (λ names. first_broken (known_rules names (c.loop-i.i + 1) section.neighbour)) c.requires.names) ∙ fails) in
     search (rules, broken)
 
 pub loop-i-preserved : goal.loop-i-preserved
@@ -31,7 +31,7 @@ loop-i-preserved c =
     record {
       end = c.loop-i.invariant.end;
       rules = numbered_holds (known_own (entry_names entries)) entries c.loop-i.i (entry_seen section) c.loop-i.invariant.rules at
-        (subst (λ names. first_broken (known_rules names (c.loop-i.i + 1) section.neighbour) ≡ None) c.requires.names read.0);
+          (subst (λ names. first_broken (known_rules names (c.loop-i.i + 1) section.neighbour) ≡ None) c.requires.names read.0);
       neighbours = grown (neighbour_of entries) entries c.loop-i.i (entry_seen section) _ _ _ _ at c.push.ensures.items (c.is_err.ensures.negation ∙ ap not c.if-is_err.false) c.loop-i.invariant.neighbours
-        (read.1 ∙ ap (λ names. neighbour_among names section.neighbour) c.requires.names);
+          (read.1 ∙ ap (λ names. neighbour_among names section.neighbour) c.requires.names);
     }

@@ -27,8 +27,8 @@ returns-in_default c =
     let given = arrays_in c.args.pairs.now in
     let rows = rows_of c.args.sizes c.args.beside (take c.loop-i.i given) in
     let broken = c.loop-i.invariant.rules
-        ∙ each_here (pair_rules c.args.place c.args.sizes c.args.beside) given c.loop-i.i (map view c.get.result.now) (section_fault c.args.place Pair) c.get.ensures
-          (no_row c.args.place rows _ c.read_row.result c.read_row.ensures.value c.in_default.is) in
+    ∙ each_here (pair_rules c.args.place c.args.sizes c.args.beside) given c.loop-i.i (map view c.get.result.now) (section_fault c.args.place Pair) c.get.ensures
+    (no_row c.args.place rows _ c.read_row.result c.read_row.ensures.value c.in_default.is) in
     search (rules, broken)
 
 pub returns-then-is_some : goal.returns-then-is_some
@@ -36,10 +36,10 @@ returns-then-is_some c =
     let given = arrays_in c.args.pairs.now in
     let rows = rows_of c.args.sizes c.args.beside (take c.loop-i.i given) in
     let old = looked c.args.sizes c.columns_of-columns.result rows c.in-Some.row c.loop-i.cells.items c.index.result.now c.loop-i.invariant.cells c.in-Some.ensures.within.0
-        (subst (λ n. c.in-Some.row.beside < n) (sym c.loop-i.invariant.columns) c.in-Some.ensures.within.1) c.loop-i.invariant.within c.index.ensures ∙ sym c.is_some.ensures ∙ c.if-is_some.true in
+    (subst (λ n. c.in-Some.row.beside < n) (sym c.loop-i.invariant.columns) c.in-Some.ensures.within.1) c.loop-i.invariant.within c.index.ensures ∙ sym c.is_some.ensures ∙ c.if-is_some.true in
     let broken = c.loop-i.invariant.rules
-        ∙ each_here (pair_rules c.args.place c.args.sizes c.args.beside) given c.loop-i.i (map view c.get.result.now) (section_fault c.args.place Twice) c.get.ensures
-          (placed c.args.place rows _ c.read_row.result c.in-Some.row true c.read_row.ensures.value c.in-Some.is old) in
+    ∙ each_here (pair_rules c.args.place c.args.sizes c.args.beside) given c.loop-i.i (map view c.get.result.now) (section_fault c.args.place Twice) c.get.ensures
+    (placed c.args.place rows _ c.read_row.result c.in-Some.row true c.read_row.ensures.value c.in-Some.is old) in
     search (rules, broken)
 
 pub loop-i-preserved : goal.loop-i-preserved
@@ -55,7 +55,7 @@ loop-i-preserved c =
       few = c.loop-i.invariant.few;
       sizes = c.loop-i.invariant.sizes;
       rules = c.loop-i.invariant.rules
-        ∙ each_past (pair_rules c.args.place c.args.sizes c.args.beside) given c.loop-i.i (map view c.get.result.now) c.get.ensures
+          ∙ each_past (pair_rules c.args.place c.args.sizes c.args.beside) given c.loop-i.i (map view c.get.result.now) c.get.ensures
           (placed c.args.place rows _ c.read_row.result c.in-Some.row false c.read_row.ensures.value c.in-Some.is new);
       within = All-same (λ (row : PairRow). row.beside < c.columns_of-columns.result) _ _ next (All-push (λ (row : PairRow). row.beside < c.columns_of-columns.result) rows c.in-Some.row c.loop-i.invariant.within beside);
       cells = put c.args.sizes c.columns_of-columns.result rows _ c.in-Some.row c.loop-i.cells.items c.loop-i.invariant.cells next beside c.loop-i.invariant.within new;

@@ -32,7 +32,7 @@ returns-in_err-fans c =
     let top = read_ok _ _ (top_seen c.in-Ok.top) (sym c.in-Ok.ensures) in
     let stops = stops_from error (fans_rules (tables_in c.in-Ok.top.fans)) _ c.in_err-fans.ensures in
     let fails = stops_gives error (network_rules doc) (network_in doc) (at_fans error doc top.0
-        (subst (λ tables. Stops error (fans_rules tables)) (ap (λ (top : TopEntry). top.fans) top.1) stops)) in
+    (subst (λ tables. Stops error (fans_rules tables)) (ap (λ (top : TopEntry). top.fans) top.1) stops)) in
     search (rules, fails)
 
 pub returns-in-Err-read_sections : goal.returns-in-Err-read_sections
@@ -44,7 +44,7 @@ returns-in-Err-read_sections c =
     let error = c.in-Err-read_sections.error in
     let stops = stops_from error (sections_rules (tables_in c.in-Ok.top.sections)) _ c.in-Err-read_sections.ensures.value in
     stops_gives error (network_rules doc) (network_in doc) (at_sections error doc top.0 fans_hold
-      (subst (λ tables. Stops error (sections_rules tables)) (ap (λ (top : TopEntry). top.sections) top.1) stops))
+    (subst (λ tables. Stops error (sections_rules tables)) (ap (λ (top : TopEntry). top.sections) top.1) stops))
 
 pub returns-in_err-tree : goal.returns-in_err-tree
 returns-in_err-tree c =
@@ -58,7 +58,7 @@ returns-in_err-tree c =
     let error = c.in_err-tree.field-0.0 in
     let stops = stops_from error (trees_rules (sections_seen c.in-Ok-read_sections.sections)) _ c.in_err-tree.ensures in
     let fails = stops_gives error (network_rules doc) (network_in doc) (at_tree error doc top.0 fans_hold sections_hold
-        (subst (λ (es : List SectionEntry). Stops error (trees_rules es)) same stops)) in
+    (subst (λ (es : List SectionEntry). Stops error (trees_rules es)) same stops)) in
     search (rules, fails)
 
 pub returns-in_err-losses : goal.returns-in_err-losses
@@ -76,7 +76,7 @@ returns-in_err-losses c =
     let error = c.in_err-losses.field-0.0 in
     let stops = stops_from error (losses_rules (map entry_seen c.as_slice.result.now)) _ c.in_err-losses.ensures in
     let fails = stops_gives error (network_rules doc) (network_in doc) (at_losses error doc top.0 fans_hold sections_hold tree_holds
-        (subst (λ (es : List SectionEntry). Stops error (losses_rules es)) all_same stops)) in
+    (subst (λ (es : List SectionEntry). Stops error (losses_rules es)) all_same stops)) in
     search (rules, fails)
 
 pub new-requires : goal.new-requires
@@ -95,8 +95,8 @@ new-requires c =
     let losses_hold = subst (λ (es : List SectionEntry). first_broken (losses_rules es) ≡ None) all_same losses.0 in
     let all_losses = losses.1 ∙ ap losses_in all_same in
     let seen = network_seen doc c.in-Ok.top.name c.in_ok-tree.tree c.into_list.result c.in_ok-losses.losses.sizes c.in_ok-losses.losses.pairs c.in_ok-fans.fans
-        (ap (λ (top : TopEntry). top.name) top.1) (tree.1 ∙ ap tree_of same) (c.into_list.ensures ∙ c.in-Ok-read_sections.ensures.names ∙ ap entry_names same)
-        (ap (λ (losses : Losses). losses.sizes) all_losses) (ap (λ (losses : Losses). losses.pairs) all_losses) (fans.1 ∙ ap (map fan_of) (ap (λ (top : TopEntry). top.fans) top.1)) in
+    (ap (λ (top : TopEntry). top.name) top.1) (tree.1 ∙ ap tree_of same) (c.into_list.ensures ∙ c.in-Ok-read_sections.ensures.names ∙ ap entry_names same)
+    (ap (λ (losses : Losses). losses.sizes) all_losses) (ap (λ (losses : Losses). losses.pairs) all_losses) (fans.1 ∙ ap (map fan_of) (ap (λ (top : TopEntry). top.fans) top.1)) in
     subst (λ (net : Network). IsNetwork net) seen (is_network doc (none_broken doc top.0 fans_hold sections_hold tree_holds losses_hold))
 
 pub returns : goal.returns
@@ -115,6 +115,6 @@ returns c =
     let losses_hold = subst (λ (es : List SectionEntry). first_broken (losses_rules es) ≡ None) all_same losses.0 in
     let all_losses = losses.1 ∙ ap losses_in all_same in
     let seen = network_seen doc c.in-Ok.top.name c.in_ok-tree.tree c.into_list.result c.in_ok-losses.losses.sizes c.in_ok-losses.losses.pairs c.in_ok-fans.fans
-        (ap (λ (top : TopEntry). top.name) top.1) (tree.1 ∙ ap tree_of same) (c.into_list.ensures ∙ c.in-Ok-read_sections.ensures.names ∙ ap entry_names same)
-        (ap (λ (losses : Losses). losses.sizes) all_losses) (ap (λ (losses : Losses). losses.pairs) all_losses) (fans.1 ∙ ap (map fan_of) (ap (λ (top : TopEntry). top.fans) top.1)) in
+    (ap (λ (top : TopEntry). top.name) top.1) (tree.1 ∙ ap tree_of same) (c.into_list.ensures ∙ c.in-Ok-read_sections.ensures.names ∙ ap entry_names same)
+    (ap (λ (losses : Losses). losses.sizes) all_losses) (ap (λ (losses : Losses). losses.pairs) all_losses) (fans.1 ∙ ap (map fan_of) (ap (λ (top : TopEntry). top.fans) top.1)) in
     ap (λ o. unless_refused o (network_in doc)) (none_broken doc top.0 fans_hold sections_hold tree_holds losses_hold) ∙ ap (λ (net : Network). Ok net) (seen ∙ sym c.new.ensures)

@@ -15,7 +15,7 @@ returns-in_err-neighbours c =
     let error = c.in_err-neighbours.field-0.0 in
     let stops = stops_from error (neighbours_rules (map entry_seen c.as_slice-tables.result.now)) _ c.in_err-neighbours.ensures in
     let fails = stops_gives error (trees_rules sections) (tree_of sections) (stops_first error (neighbours_rules sections) (tree_rules (tree_of sections))
-        (subst (λ (tables : List SectionTable). Stops error (neighbours_rules (map entry_seen tables))) c.as_slice-tables.ensures.value stops)) in
+    (subst (λ (tables : List SectionTable). Stops error (neighbours_rules (map entry_seen tables))) c.as_slice-tables.ensures.value stops)) in
     search (rules, fails)
 
 pub returns : goal.returns

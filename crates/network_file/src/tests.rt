@@ -1,0 +1,512 @@
+//! Texts that are refused, each with its place and its reason, and texts that are read.
+//!
+//! The expected refusals are those of docs/FORMATS.md, "Network file", found by hand.
+
+use crate::read_network;
+use duct_units::{Fault, Part, ReadError, Reason};
+use net_model::Network;
+use std::alloc::Global;
+use std::process::Abort;
+use std::test::Fail;
+
+const HEAD: &str = "format = 1\nname = \"n\"\n";
+
+const FAN: &str = "[[fan]]\nname = \"f1\"\npressure = 60\ncost = 100\n";
+
+const BAD_FAN: &str = "[[fan]]\nname = \"f2\"\npressure = 0\ncost = 100\n";
+
+const A: &str =
+    "[[section]]\nname = \"a\"\nside = \"supply\"\nsizes = [\"k1\"]\npairs = [[1, 0, 60, 500]]\n";
+
+const B: &str =
+    "[[section]]\nname = \"b\"\nside = \"supply\"\nneighbour = \"a\"\nsizes = [\"k1\"]\npairs = [[1, 1, 5, 5]]\n";
+
+const BAD_SECTION: &str =
+    "[[section]]\nname = \"c\"\nside = \"exhaust\"\nsizes = [\"k1\"]\npairs = []\n";
+
+fn joined(alloc: Global, parts: &[&str]) -> Result<String, Fail> {
+    let mut text = String::new(alloc);
+    for part in parts {
+        text.push_str(part)?;
+    }
+    Ok(text)
+}
+
+/// The network of the text is refused here.
+fn expect_refused<R: Abort>(
+    rt: &R,
+    alloc: Global,
+    text: &str,
+    part: Part,
+    place: u32,
+    reason: Reason,
+) {
+    let wanted = Fault {
+        part,
+        place,
+        reason,
+    };
+    match read_network(alloc, text.as_bytes()) {
+        Ok(_) => assert!(rt; false, "read, and not {wanted:?}: {text}"),
+        Err(ReadError::NoMemory) => assert!(rt; false, "no memory"),
+        Err(ReadError::Refused(fault)) => assert_eq!(rt; fault, wanted, "of {text}"),
+    }
+}
+
+/// The network of the text.
+fn expect_network<R: Abort>(rt: &R, alloc: Global, text: &str) -> Result<Network, Fail> {
+    match read_network(alloc, text.as_bytes()) {
+        Ok(network) => Ok(network),
+        Err(error) => {
+            assert!(rt; false, "{error}: {text}");
+            Err(Fail::from(error))
+        }
+    }
+}
+
+#[test]
+fn each_reason_has_its_place(rt: HostRuntime) -> Result<(), Fail> {
+    let alloc = rt.alloc();
+    let cases: [(&[&str], Part, u32, Reason); 37] = [
+        (&["format ="], Part::File, 0, Reason::Text),
+        (&[HEAD, "more = 1\n", A], Part::File, 0, Reason::Key),
+        (&["name = \"n\"\n", A], Part::File, 0, Reason::Field),
+        (
+            &["format = 1.0\nname = \"n\"\n", A],
+            Part::File,
+            0,
+            Reason::Field,
+        ),
+        (
+            &["format = 2\nname = \"n\"\n", A],
+            Part::File,
+            0,
+            Reason::Format,
+        ),
+        (
+            &["format = 1\nname = \"a b\"\n", A],
+            Part::File,
+            0,
+            Reason::Field,
+        ),
+        (&[HEAD, "fan = 1\n", A], Part::File, 0, Reason::Field),
+        (&[HEAD, "fan = [1]\n", A], Part::File, 0, Reason::Field),
+        (&[HEAD], Part::File, 0, Reason::Field),
+        (&[HEAD, "section = [1]\n"], Part::File, 0, Reason::Field),
+        (&[HEAD, "section = []\n"], Part::File, 0, Reason::Empty),
+        (&[HEAD, FAN, "power = 1\n", A], Part::Fan, 1, Reason::Key),
+        (&[HEAD, FAN, BAD_FAN, A], Part::Fan, 2, Reason::Field),
+        (
+            &[
+                HEAD,
+                "[[fan]]\nname = \"f\"\npressure = 20001\ncost = 0\n",
+                A,
+            ],
+            Part::Fan,
+            1,
+            Reason::Field,
+        ),
+        (
+            &[HEAD, "[[fan]]\nname = \"f\"\npressure = 1\ncost = -1\n", A],
+            Part::Fan,
+            1,
+            Reason::Field,
+        ),
+        (
+            &[HEAD, "[[fan]]\npressure = 1\ncost = 0\n", A],
+            Part::Fan,
+            1,
+            Reason::Field,
+        ),
+        (&[HEAD, FAN, FAN, A], Part::Fan, 2, Reason::Twice),
+        (&[HEAD, A, "size = 1\n"], Part::Section, 1, Reason::Key),
+        (&[HEAD, A, BAD_SECTION], Part::Section, 2, Reason::Field),
+        (
+            &[
+                HEAD,
+                "[[section]]\nname = \"a\"\nside = \"supply\"\nneighbour = 1\nsizes = [\"k\"]\npairs = []\n",
+            ],
+            Part::Section,
+            1,
+            Reason::Field,
+        ),
+        (
+            &[
+                HEAD,
+                "[[section]]\nname = \"a\"\nside = \"supply\"\nsizes = [1]\npairs = []\n",
+            ],
+            Part::Section,
+            1,
+            Reason::Field,
+        ),
+        (
+            &[
+                HEAD,
+                "[[section]]\nname = \"a\"\nside = \"supply\"\nsizes = [\"k\"]\n",
+            ],
+            Part::Section,
+            1,
+            Reason::Field,
+        ),
+        (
+            &[
+                HEAD,
+                "[[section]]\nname = \"a\"\nside = \"supply\"\nsizes = [\"k\"]\npairs = [1]\n",
+            ],
+            Part::Section,
+            1,
+            Reason::Field,
+        ),
+        (&[HEAD, A, A], Part::Section, 2, Reason::Twice),
+        (
+            &[HEAD, A, "neighbour = \"b\"\n"],
+            Part::Section,
+            1,
+            Reason::UnknownNeighbour,
+        ),
+        (
+            &[HEAD, A, "neighbour = \"a\"\n"],
+            Part::Section,
+            1,
+            Reason::NotBefore,
+        ),
+        (
+            &[HEAD, A, "neighbour = \"b\"\n", B],
+            Part::Section,
+            1,
+            Reason::NotBefore,
+        ),
+        (
+            &[
+                HEAD,
+                A,
+                "[[section]]\nname = \"b\"\nside = \"return\"\nneighbour = \"a\"\nsizes = [\"k\"]\npairs = []\n",
+            ],
+            Part::Section,
+            2,
+            Reason::OtherSide,
+        ),
+        (
+            &[
+                HEAD,
+                "[[section]]\nname = \"a\"\nside = \"return\"\nsizes = [\"k\"]\npairs = []\n",
+            ],
+            Part::File,
+            0,
+            Reason::NoSupply,
+        ),
+        (
+            &[
+                HEAD,
+                A,
+                "[[section]]\nname = \"b\"\nside = \"supply\"\nsizes = []\npairs = []\n",
+            ],
+            Part::Section,
+            2,
+            Reason::Empty,
+        ),
+        (
+            &[
+                HEAD,
+                "[[section]]\nname = \"a\"\nside = \"supply\"\nsizes = [\"k\", \"j\", \"k\"]\npairs = []\n",
+            ],
+            Part::Section,
+            1,
+            Reason::Twice,
+        ),
+        (
+            &[
+                HEAD,
+                "[[section]]\nname = \"a\"\nside = \"supply\"\nsizes = [\"k\"]\npairs = [[1, 0, 60]]\n",
+            ],
+            Part::Section,
+            1,
+            Reason::Pair,
+        ),
+        (
+            &[
+                HEAD,
+                "[[section]]\nname = \"a\"\nside = \"supply\"\nsizes = [\"k\"]\npairs = [[2, 0, 60, 500]]\n",
+            ],
+            Part::Section,
+            1,
+            Reason::Pair,
+        ),
+        (
+            &[
+                HEAD,
+                "[[section]]\nname = \"a\"\nside = \"supply\"\nsizes = [\"k\"]\npairs = [[1, 1, 60, 500]]\n",
+            ],
+            Part::Section,
+            1,
+            Reason::Pair,
+        ),
+        (
+            &[
+                HEAD,
+                "[[section]]\nname = \"a\"\nside = \"supply\"\nsizes = [\"k\"]\npairs = [[1, 0, 1000000000000001, 500]]\n",
+            ],
+            Part::Section,
+            1,
+            Reason::Pair,
+        ),
+        // The neighbour has one size, the section itself two.
+        (
+            &[
+                HEAD,
+                A,
+                "[[section]]\nname = \"b\"\nside = \"supply\"\nneighbour = \"a\"\nsizes = [\"k\", \"j\"]\npairs = [[1, 2, 5, 5]]\n",
+            ],
+            Part::Section,
+            2,
+            Reason::Pair,
+        ),
+        (
+            &[
+                HEAD,
+                "[[section]]\nname = \"a\"\nside = \"supply\"\nsizes = [\"k\"]\npairs = [[1, 0, 60, 500], [1, 0, 70, 400]]\n",
+            ],
+            Part::Section,
+            1,
+            Reason::Twice,
+        ),
+    ];
+    for (parts, part, place, reason) in &cases {
+        let text = joined(alloc, parts)?;
+        expect_refused(&rt, alloc, text.as_str(), *part, *place, *reason);
+    }
+    Ok(())
+}
+
+#[test]
+fn the_first_broken_rule_is_answered(rt: HostRuntime) -> Result<(), Fail> {
+    let alloc = rt.alloc();
+    let cases: [(&[&str], Part, u32, Reason); 17] = [
+        // A key that isn't listed, before one that is missing.
+        (&["format = 1\nmore = 1\n", A], Part::File, 0, Reason::Key),
+        // The format, before the name.
+        (&["format = 2\n", A], Part::File, 0, Reason::Format),
+        // The top table, before the fans.
+        (&[HEAD, BAD_FAN], Part::File, 0, Reason::Field),
+        // A fan's table, before its name.
+        (
+            &[
+                HEAD,
+                FAN,
+                "[[fan]]\nname = \"f1\"\npressure = 0\ncost = 1\n",
+                A,
+            ],
+            Part::Fan,
+            2,
+            Reason::Field,
+        ),
+        // A fan's name, before the next fan.
+        (&[HEAD, FAN, FAN, BAD_FAN, A], Part::Fan, 2, Reason::Twice),
+        // The fans, before the sections.
+        (&[HEAD, BAD_FAN, BAD_SECTION], Part::Fan, 1, Reason::Field),
+        // A section's table, before its name.
+        (
+            &[
+                HEAD,
+                A,
+                "[[section]]\nname = \"a\"\nside = \"exhaust\"\nsizes = []\npairs = []\n",
+            ],
+            Part::Section,
+            2,
+            Reason::Field,
+        ),
+        // All sections' tables and names, before any neighbour.
+        (
+            &[HEAD, A, "neighbour = \"z\"\n", A],
+            Part::Section,
+            2,
+            Reason::Twice,
+        ),
+        // All neighbours' names, before any of their places.
+        (
+            &[
+                HEAD,
+                A,
+                "neighbour = \"a\"\n[[section]]\nname = \"b\"\nside = \"supply\"\nneighbour = \"z\"\nsizes = []\npairs = []\n",
+            ],
+            Part::Section,
+            2,
+            Reason::UnknownNeighbour,
+        ),
+        // A neighbour's place, before its side.
+        (
+            &[
+                HEAD,
+                "[[section]]\nname = \"a\"\nside = \"return\"\nneighbour = \"b\"\nsizes = []\npairs = []\n",
+                "[[section]]\nname = \"b\"\nside = \"supply\"\nsizes = []\npairs = []\n",
+            ],
+            Part::Section,
+            1,
+            Reason::NotBefore,
+        ),
+        // A section's neighbour, before the supply side.
+        (
+            &[
+                HEAD,
+                "[[section]]\nname = \"a\"\nside = \"return\"\nneighbour = \"a\"\nsizes = []\npairs = []\n",
+            ],
+            Part::Section,
+            1,
+            Reason::NotBefore,
+        ),
+        // The tree, before any sizes.
+        (
+            &[
+                HEAD,
+                "[[section]]\nname = \"a\"\nside = \"return\"\nsizes = []\npairs = []\n",
+            ],
+            Part::File,
+            0,
+            Reason::NoSupply,
+        ),
+        // A section's sizes, before its pairs.
+        (
+            &[
+                HEAD,
+                "[[section]]\nname = \"a\"\nside = \"supply\"\nsizes = [\"k\", \"k\"]\npairs = [[1]]\n",
+            ],
+            Part::Section,
+            1,
+            Reason::Twice,
+        ),
+        // A pair, before a later one.
+        (
+            &[
+                HEAD,
+                "[[section]]\nname = \"a\"\nside = \"supply\"\nsizes = [\"k\"]\npairs = [[1, 0, 1, 1], [1, 0, 1, 1], [1]]\n",
+            ],
+            Part::Section,
+            1,
+            Reason::Twice,
+        ),
+        (
+            &[
+                HEAD,
+                "[[section]]\nname = \"a\"\nside = \"supply\"\nsizes = [\"k\"]\npairs = [[1, 0, 1, 1], [1], [1, 0, 1, 1]]\n",
+            ],
+            Part::Section,
+            1,
+            Reason::Pair,
+        ),
+        // A pair's form, before its sizes: those are given before.
+        (
+            &[
+                HEAD,
+                "[[section]]\nname = \"a\"\nside = \"supply\"\nsizes = [\"k\"]\npairs = [[1, 0, 1, 1], [1, 0, -1, 1]]\n",
+            ],
+            Part::Section,
+            1,
+            Reason::Pair,
+        ),
+        // A section's pairs, before the next section's sizes.
+        (
+            &[
+                HEAD,
+                "[[section]]\nname = \"a\"\nside = \"supply\"\nsizes = [\"k\"]\npairs = [[1]]\n[[section]]\nname = \"b\"\nside = \"supply\"\nsizes = []\npairs = []\n",
+            ],
+            Part::Section,
+            1,
+            Reason::Pair,
+        ),
+    ];
+    for (parts, part, place, reason) in &cases {
+        let text = joined(alloc, parts)?;
+        expect_refused(&rt, alloc, text.as_str(), *part, *place, *reason);
+    }
+    Ok(())
+}
+
+/// So many fans or sections of names of their own, each written as the two parts round its number.
+fn numbered(alloc: Global, count: u32, before: &str, after: &str) -> Result<String, Fail> {
+    let mut text = String::new(alloc);
+    for n in 0..count {
+        text.push_str(format!(in alloc; "{before}{n}{after}")?.as_str())?;
+    }
+    Ok(text)
+}
+
+/// A section of so many sizes and so many pairs.
+fn section_of(alloc: Global, sizes: u32, pairs: u32) -> Result<String, Fail> {
+    let sizes = numbered(alloc, sizes, "\"k", "\", ")?;
+    let pairs = numbered(alloc, pairs, "[1, 0, ", ", 500], ")?;
+    Ok(format!(in alloc;
+        "[[section]]\nname = \"a\"\nside = \"supply\"\nsizes = [{sizes}]\npairs = [{pairs}]\n"
+    )?)
+}
+
+#[test]
+fn a_count_above_its_limit_comes_before_what_is_counted(rt: HostRuntime) -> Result<(), Fail> {
+    let alloc = rt.alloc();
+    let fans = numbered(
+        alloc,
+        64,
+        "[[fan]]\nname = \"f",
+        "\"\npressure = 1\ncost = 0\n",
+    )?;
+    let sections = numbered(
+        alloc,
+        500,
+        "[[section]]\nname = \"s",
+        "\"\nside = \"supply\"\nsizes = [\"k\"]\npairs = []\n",
+    )?;
+    let text = joined(alloc, &[HEAD, fans.as_str(), sections.as_str()])?;
+    let network = expect_network(&rt, alloc, text.as_str())?;
+    assert_eq!(rt; network.fan_count(), 64);
+    assert_eq!(rt; network.tree().len(), 500);
+    // A fan or a section more, which breaks rules of its own too.
+    let text = joined(alloc, &[HEAD, fans.as_str(), BAD_FAN, sections.as_str()])?;
+    expect_refused(&rt, alloc, text.as_str(), Part::File, 0, Reason::TooMany);
+    let text = joined(alloc, &[HEAD, sections.as_str(), BAD_SECTION])?;
+    expect_refused(&rt, alloc, text.as_str(), Part::File, 0, Reason::TooMany);
+    // 24 sizes are read, and of 25 none is looked at. The pairs of one size would be given twice.
+    let text = joined(alloc, &[HEAD, section_of(alloc, 24, 1)?.as_str()])?;
+    assert_eq!(rt; expect_network(&rt, alloc, text.as_str())?.fan_count(), 0);
+    let text = joined(alloc, &[HEAD, section_of(alloc, 25, 577)?.as_str()])?;
+    expect_refused(&rt, alloc, text.as_str(), Part::Section, 1, Reason::TooMany);
+    let text = joined(alloc, &[HEAD, section_of(alloc, 24, 576)?.as_str()])?;
+    expect_refused(&rt, alloc, text.as_str(), Part::Section, 1, Reason::Twice);
+    let text = joined(alloc, &[HEAD, section_of(alloc, 24, 577)?.as_str()])?;
+    expect_refused(&rt, alloc, text.as_str(), Part::Section, 1, Reason::TooMany);
+    Ok(())
+}
+
+#[test]
+fn a_pair_stands_by_its_size_and_its_neighbours(rt: HostRuntime) -> Result<(), Fail> {
+    let alloc = rt.alloc();
+    // The neighbour has two sizes, the section three. The byte order mark at the front is passed over.
+    let text = joined(
+        alloc,
+        &[
+            "\u{feff}",
+            HEAD,
+            FAN,
+            "[[section]]\nname = \"a\"\nside = \"supply\"\nsizes = [\"k1\", \"k2\"]\npairs = [[2, 0, 60, 500]]\n",
+            "[[section]]\nname = \"b\"\nside = \"supply\"\nneighbour = \"a\"\nsizes = [\"j1\", \"j2\", \"j3\"]\npairs = [[3, 2, 7, 8], [1, 2, 5, 6]]\n",
+        ],
+    )?;
+    let network = expect_network(&rt, alloc, text.as_str())?;
+    assert_eq!(rt; network.tree().len(), 2);
+    assert_eq!(rt; network.section_name(1).bytes(), b"b".as_slice());
+    assert_eq!(rt; network.size_count(1), 3);
+    assert_eq!(rt; network.columns(1), 2);
+    assert_eq!(rt; network.size_name(1, 2).bytes(), b"j3".as_slice());
+    for (k, g, pair) in [
+        (0, 0, None),
+        (0, 1, Some((5, 6))),
+        (1, 1, None),
+        (2, 0, None),
+        (2, 1, Some((7, 8))),
+    ] {
+        let found = network.pair(1, k, g).map(|pair| (pair.loss, pair.price));
+        assert_eq!(rt; found, pair, "of size {k} beside size {g}");
+    }
+    assert_eq!(rt; network.fan_count(), 1);
+    assert_eq!(rt; network.fan(0).pressure, 60);
+    assert_eq!(rt; network.fan(0).cost, 100);
+    Ok(())
+}
