@@ -1,7 +1,7 @@
 //! The network of a network file, or the first rule of the file that it breaks.
 //!
 //! Pressures and losses are in dPa, money in cents. Places of refusals count from 1, and 0 is the file as a whole
-//! (docs/FORMATS.md, "Network file").
+//! (README.md, "The rules, in their order").
 #![tactic(auto)]
 
 mod fans;

@@ -21,8 +21,8 @@ use std::alloc::Global;
 use toml::Table;
 use toml_fields::{DocumentError, read_document};
 
-/// The network of a network file, or the first rule of the file that it breaks, in the order of docs/FORMATS.md,
-/// "Network file".
+/// The network of a network file, or the first rule of the file that it breaks, in the order of README.md,
+/// "The rules, in their order".
 ///
 /// The bytes may be of any length. What is kept beside the document is bounded by the limits of a network.
 pub fn read_network(alloc: Global, bytes: &[u8]) -> Result<Network, ReadError>

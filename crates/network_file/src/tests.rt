@@ -1,6 +1,6 @@
 //! Texts that are refused, each with its place and its reason, and texts that are read.
 //!
-//! The expected refusals are those of docs/FORMATS.md, "Network file", found by hand.
+//! The expected refusals are those of README.md, "The rules, in their order", found by hand.
 
 use crate::read_network;
 use duct_units::{Fault, Part, ReadError, Reason};
@@ -439,8 +439,22 @@ fn section_of(alloc: Global, sizes: u32, pairs: u32) -> Result<String, Fail> {
     )?)
 }
 
+/// The network of a section of so many sizes and so many pairs is refused here.
+fn expect_section_refused<R: Abort>(
+    rt: &R,
+    alloc: Global,
+    sizes: u32,
+    pairs: u32,
+    reason: Reason,
+) -> Result<(), Fail> {
+    let section = section_of(alloc, sizes, pairs)?;
+    let text = joined(alloc, &[HEAD, section.as_str()])?;
+    expect_refused(rt, alloc, text.as_str(), Part::Section, 1, reason);
+    Ok(())
+}
+
 #[test]
-fn a_count_above_its_limit_comes_before_what_is_counted(rt: HostRuntime) -> Result<(), Fail> {
+fn a_count_at_its_limit_is_read(rt: HostRuntime) -> Result<(), Fail> {
     let alloc = rt.alloc();
     let fans = numbered(
         alloc,
@@ -448,30 +462,48 @@ fn a_count_above_its_limit_comes_before_what_is_counted(rt: HostRuntime) -> Resu
         "[[fan]]\nname = \"f",
         "\"\npressure = 1\ncost = 0\n",
     )?;
+    let section = section_of(alloc, 24, 1)?;
+    let more = numbered(
+        alloc,
+        499,
+        "[[section]]\nname = \"s",
+        "\"\nside = \"supply\"\nsizes = [\"k\"]\npairs = []\n",
+    )?;
+    let text = joined(
+        alloc,
+        &[HEAD, fans.as_str(), section.as_str(), more.as_str()],
+    )?;
+    let network = expect_network(&rt, alloc, text.as_str())?;
+    assert_eq!(rt; network.fan_count(), 64);
+    assert_eq!(rt; network.tree().len(), 500);
+    assert_eq!(rt; network.size_count(0), 24);
+    Ok(())
+}
+
+#[test]
+fn a_count_above_its_limit_comes_before_what_is_counted(rt: HostRuntime) -> Result<(), Fail> {
+    let alloc = rt.alloc();
+    // The fan and the section too many break a rule of their own too.
+    let fans = numbered(
+        alloc,
+        64,
+        "[[fan]]\nname = \"f",
+        "\"\npressure = 1\ncost = 0\n",
+    )?;
+    let text = joined(alloc, &[HEAD, fans.as_str(), BAD_FAN, A])?;
+    expect_refused(&rt, alloc, text.as_str(), Part::File, 0, Reason::TooMany);
     let sections = numbered(
         alloc,
         500,
         "[[section]]\nname = \"s",
         "\"\nside = \"supply\"\nsizes = [\"k\"]\npairs = []\n",
     )?;
-    let text = joined(alloc, &[HEAD, fans.as_str(), sections.as_str()])?;
-    let network = expect_network(&rt, alloc, text.as_str())?;
-    assert_eq!(rt; network.fan_count(), 64);
-    assert_eq!(rt; network.tree().len(), 500);
-    // A fan or a section more, which breaks rules of its own too.
-    let text = joined(alloc, &[HEAD, fans.as_str(), BAD_FAN, sections.as_str()])?;
-    expect_refused(&rt, alloc, text.as_str(), Part::File, 0, Reason::TooMany);
     let text = joined(alloc, &[HEAD, sections.as_str(), BAD_SECTION])?;
     expect_refused(&rt, alloc, text.as_str(), Part::File, 0, Reason::TooMany);
-    // 24 sizes are read, and of 25 none is looked at. The pairs of one size would be given twice.
-    let text = joined(alloc, &[HEAD, section_of(alloc, 24, 1)?.as_str()])?;
-    assert_eq!(rt; expect_network(&rt, alloc, text.as_str())?.fan_count(), 0);
-    let text = joined(alloc, &[HEAD, section_of(alloc, 25, 577)?.as_str()])?;
-    expect_refused(&rt, alloc, text.as_str(), Part::Section, 1, Reason::TooMany);
-    let text = joined(alloc, &[HEAD, section_of(alloc, 24, 576)?.as_str()])?;
-    expect_refused(&rt, alloc, text.as_str(), Part::Section, 1, Reason::Twice);
-    let text = joined(alloc, &[HEAD, section_of(alloc, 24, 577)?.as_str()])?;
-    expect_refused(&rt, alloc, text.as_str(), Part::Section, 1, Reason::TooMany);
+    // 25 sizes come before 577 pairs, and those before pairs given twice, which 576 are.
+    expect_section_refused(&rt, alloc, 25, 577, Reason::TooMany)?;
+    expect_section_refused(&rt, alloc, 24, 577, Reason::TooMany)?;
+    expect_section_refused(&rt, alloc, 24, 576, Reason::Twice)?;
     Ok(())
 }
 
