@@ -1,11 +1,12 @@
-//! The tree, and the rules that make it one.
-ghost use Rattle.std.specs.Prelude.{◌≡◌, ◌<◌, ◌≤◌, length, Some, None, IfSome};
-ghost use Rattle.std.specs.List.{list_any, flat_map, range_with_len};
-ghost use Rattle.duct_units.specs.Rules.{Gives, unless_refused, first_broken, file_fault, section_fault};
-ghost use Rattle.duct_definitions.specs.Tree.{Tree, section_count, neighbour, side, same_side, tree_rules, section_rules, IsTree};
+//! The tree, with what it gives of each section.
+ghost use Rattle.std.specs.Prelude.{◌≡◌, ◌<◌, length, Some, None, IfSome, IfOk, IsTrue, All};
+ghost use Rattle.std.specs.List.Sorted.{IsStrictlyIncreasing};
+ghost use Rattle.duct_units.specs.Rules.{Gives, unless_refused, first_broken};
+ghost use Rattle.duct_definitions.specs.Tree.{Tree, section_count, neighbour, side, children, is_leaf, all_leaves, roots, tree_rules, IsTree};
 
-use duct_definitions::MAX_SECTIONS;
-use duct_units::{Fault, List, Part, ReadError, Reason, Side};
+use crate::lists::{child_lists, leaf_list, root_list};
+use crate::rules::broken_rule;
+use duct_units::{List, NoMemory, ReadError, Side};
 use std::alloc::Global;
 use std::marker::Model;
 
@@ -14,16 +15,22 @@ use std::marker::Model;
 pub struct AirTree {
     neighbours: List<Option<u32>>,
     sides: List<Side>,
+    child_lists: List<List<u32>>,
+    leaf_list: List<u32>,
+    supply_roots: List<u32>,
+    return_roots: List<u32>,
 }
 
 impl Model for AirTree {
-    ghost use Rattle.duct_definitions.specs.Tree.{Tree, IsTree};
+    ghost use Rattle.duct_definitions.specs.Tree.{Tree};
 
     ghost Value = { Tree };
 
-    ghost view = { λ tree. record { neighbours = tree.neighbours; sides = tree.sides } };
+    ghost use Rattle.air_tree.specs.TreeFields.{tree_of, IsIndexed};
 
-    ghost invariant = { λ tree. IsTree (record { neighbours = tree.neighbours; sides = tree.sides }) };
+    ghost view = { tree_of };
+
+    ghost invariant = { IsIndexed };
 }
 
 impl AirTree {
@@ -31,7 +38,7 @@ impl AirTree {
     /// break: a count out of bounds; then section by section a neighbour that doesn't stand earlier or is of the
     /// other side; then no supply side.
     pub fn new(
-        _alloc: Global,
+        alloc: Global,
         neighbours: List<Option<u32>>,
         sides: List<Side>,
     ) -> Result<AirTree, ReadError>
@@ -41,7 +48,7 @@ impl AirTree {
     {
         match broken_rule(neighbours.as_slice(), sides.as_slice()) {
             Some(fault) => Err(ReadError::Refused(fault)),
-            None => Ok(AirTree { neighbours, sides }),
+            None => Ok(indexed(alloc, neighbours, sides)?),
         }
     }
 
@@ -69,91 +76,76 @@ impl AirTree {
     {
         self.sides.as_slice()[s as usize]
     }
-}
 
-/// The first rule of a tree that is broken.
-#[tactic(auto, using(duct_units::proofs::RuleLaws::append_rule))]
-fn broken_rule(neighbours: &[Option<u32>], sides: &[Side]) -> Option<Fault>
-    requires { length sides.now ≡ length neighbours.now }
-    ensures { result ≡ first_broken (tree_rules (record { neighbours = neighbours.now; sides = sides.now })) }
-{
-    if neighbours.is_empty() {
-        return Some(file_fault(Reason::Empty));
+    /// The sections whose neighbour the section is, in rising number.
+    pub fn children(&self, s: u32) -> &[u32]
+        requires { s < section_count self.now }
+        ensures value { result.now ≡ children self.now s }
+        ensures rising { IsStrictlyIncreasing result.now }
+        ensures later { All (λ c. s < c) result.now }
+        ensures sections { All (λ c. c < section_count self.now) result.now }
+    {
+        self.child_lists.as_slice()[s as usize].as_slice()
     }
-    if neighbours.len() > MAX_SECTIONS {
-        return Some(file_fault(Reason::TooMany));
-    }
-    if let Some(fault) = broken_section(neighbours, sides) {
-        return Some(fault);
-    }
-    if !has_supply(sides) {
-        return Some(file_fault(Reason::NoSupply));
-    }
-    None
-}
 
-/// The first section that breaks a rule.
-fn broken_section(neighbours: &[Option<u32>], sides: &[Side]) -> Option<Fault>
-    requires same { length sides.now ≡ length neighbours.now }
-    requires few { length neighbours.now ≤ MAX_SECTIONS }
-    ensures { let tree : Tree = record { neighbours = neighbours.now; sides = sides.now } in
-        result ≡ first_broken (flat_map (section_rules tree) (range_with_len 0 (length neighbours.now))) }
-{
-    for s in 0..neighbours.len() {
-        if let Some(fault) = broken_at(neighbours, sides, s) {
-            return Some(fault);
+    /// The sections without children, of both sides, in rising number.
+    pub fn leaves(&self) -> &[u32]
+        ensures value { result.now ≡ all_leaves self.now }
+        ensures rising { IsStrictlyIncreasing result.now }
+        ensures leaves { All (λ s. IsTrue (is_leaf self.now s)) result.now }
+        ensures sections { All (λ s. s < section_count self.now) result.now }
+    {
+        self.leaf_list.as_slice()
+    }
+
+    /// The sections of a side that stand at the fan, in rising number.
+    pub fn roots(&self, side: Side) -> &[u32]
+        ensures value { result.now ≡ roots self.now side }
+        ensures rising { IsStrictlyIncreasing result.now }
+        ensures sections { All (λ s. s < section_count self.now) result.now }
+    {
+        match side {
+            Side::Supply => self.supply_roots.as_slice(),
+            Side::Return => self.return_roots.as_slice(),
         }
     }
-    None
-}
 
-fn broken_at(neighbours: &[Option<u32>], sides: &[Side], s: usize) -> Option<Fault>
-    requires same { length sides.now ≡ length neighbours.now }
-    requires few { length neighbours.now ≤ MAX_SECTIONS }
-    requires section { s < length neighbours.now }
-    ensures { result ≡ first_broken (section_rules (record { neighbours = neighbours.now; sides = sides.now }) s) }
-{
-    let n = match neighbours[s] {
-        None => return None,
-        Some(n) => n as usize,
-    };
-    if s <= n {
-        Some(section_fault(s as u32 + 1, Reason::NotBefore))
-    } else if !is_same(sides[n], sides[s]) {
-        Some(section_fault(s as u32 + 1, Reason::OtherSide))
-    } else {
-        None
+    /// Whether this is the number of a section without children.
+    pub fn is_leaf(&self, s: u32) -> bool
+        ensures { result ≡ is_leaf self.now s }
+    {
+        s < self.len() && self.children(s).is_empty()
+    }
+
+    /// An equal tree.
+    pub fn copy(&self, alloc: Global) -> Result<AirTree, NoMemory>
+        ensures { IfOk result (λ tree. tree ≡ self.now) }
+    {
+        let neighbours = Vec::from_slice(alloc, self.neighbours.as_slice())?;
+        let sides = Vec::from_slice(alloc, self.sides.as_slice())?;
+        indexed(alloc, List::from_vec(neighbours), List::from_vec(sides))
     }
 }
 
-fn has_supply(sides: &[Side]) -> bool
-    ensures { result ≡ list_any (λ x. same_side x Side.Supply) sides.now }
+/// The tree of neighbours and sides that keep its rules.
+fn indexed(
+    alloc: Global,
+    neighbours: List<Option<u32>>,
+    sides: List<Side>,
+) -> Result<AirTree, NoMemory>
+    requires { IsTree (record { neighbours = neighbours; sides = sides }) }
+    ensures { IfOk result (λ tree. tree ≡ record { neighbours = neighbours; sides = sides }) }
 {
-    sides.iter().any(|side| is_same(*side, Side::Supply))
-}
-
-fn is_same(a: Side, b: Side) -> bool
-    ensures { result ≡ same_side a b }
-{
-    a == b
-}
-
-fn file_fault(reason: Reason) -> Fault
-    ensures { result ≡ file_fault reason }
-{
-    Fault {
-        part: Part::File,
-        place: 0,
-        reason,
-    }
-}
-
-fn section_fault(place: u32, reason: Reason) -> Fault
-    ensures { result ≡ section_fault place reason }
-{
-    Fault {
-        part: Part::Section,
-        place,
-        reason,
-    }
+    let child_lists = child_lists(alloc, neighbours.as_slice())?;
+    let leaf_list = leaf_list(alloc, neighbours.as_slice(), child_lists.as_slice())?;
+    let supply_roots = root_list(alloc, neighbours.as_slice(), sides.as_slice(), Side::Supply)?;
+    let return_roots = root_list(alloc, neighbours.as_slice(), sides.as_slice(), Side::Return)?;
+    Ok(AirTree {
+        neighbours,
+        sides,
+        child_lists,
+        leaf_list,
+        supply_roots,
+        return_roots,
+    })
 }

@@ -1,2 +1,4 @@
 pub mod OrderLaws
 pub mod TreeLaws
+pub mod SectionLists
+pub mod WayLaws

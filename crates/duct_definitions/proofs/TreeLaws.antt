@@ -1,6 +1,6 @@
 -- What the rules of a tree say.
 use Rattle.std.proofs.Common.{◌≡◌, ℕ, ◌<◌, ◌≤◌, ◌+◌, List, [], ◌∷◌, ◌++◌, Option, Some, None, IfSome, Bool, true, refl, ap, ◌∙◌, sym, subst, arith}
-use Rattle.std.proofs.lemmas.Bool.{ltb-true}
+use Rattle.std.proofs.lemmas.Bool.{ltb-true, leb-true}
 use Rattle.std.specs.Prelude.{nat_le}
 use Rattle.std.specs.List.{flat_map, list_any}
 use Rattle.duct_units.specs.declared.side.Side.TheVariants.{Supply}
@@ -31,3 +31,12 @@ earlier t s n tree within is =
 pub neighbour_earlier : (t : Tree) (s : ℕ) → IsTree t → s < section_count t → IfSome (neighbour t s) (λ n. n < s)
 neighbour_earlier t s tree within =
     elim (neighbour t s) as (λ o. neighbour t s ≡ o → IfSome o (λ n. n < s)) [ None ↦ λ e. tt | Some n ↦ λ e. earlier t s n tree within e ] refl
+
+-- a tree has 500 sections at the most
+pub few_sections : (t : Tree) → IsTree t → section_count t ≤ MAX_SECTIONS
+few_sections t tree =
+    let each : List Rule = flat_map (section_rules t) (sections t) in
+    let supply : List Rule = at_file (list_any (λ x. same_side x Supply) t.sides) NoSupply ∷ [] in
+    let few : List Rule = at_file (nat_le (section_count t) MAX_SECTIONS) TooMany ∷ (each ++ supply) in
+    let rest = (first_holds (at_file (nat_le 1 (section_count t)) Empty) few tree.rules).1 in
+    leb-true (section_count t) MAX_SECTIONS (first_holds (at_file (nat_le (section_count t) MAX_SECTIONS) TooMany) (each ++ supply) rest).0

@@ -2,9 +2,11 @@
 --   neighbour t s   the next section towards the fan; none at the fan
 --   children t s    the sections whose neighbour is s, in rising number
 --   leaves t x      the sections of side x without children, in rising number
+--   all_leaves t    the leaves of both sides, in rising number
+--   roots t x       the sections of side x at the fan, in rising number
 --   way t s         the sections from s to the fan, s first
 --   passes t s x    the way of x passes s
-use Rattle.std.specs.Prelude.{◌≡◌, ℕ, zero, suc, ◌+◌, List, [], ◌∷◌, ◌++◌, length, filter, Bool, true, false, ◌&&◌, ◌==◌, Option, Some, None, slice_get, unwrap_or, nat_lt, nat_le}
+use Rattle.std.specs.Prelude.{◌≡◌, ℕ, zero, suc, ◌+◌, List, [], ◌∷◌, ◌++◌, length, filter, Bool, true, false, ◌&&◌, ◌==◌, Option, Some, None, is_none, slice_get, unwrap_or, nat_lt, nat_le}
 use Rattle.std.specs.List.{range_with_len, list_any, flat_map}
 use Rattle.duct_units.specs.declared.fault.Reason.TheVariants.{Empty, TooMany, NotBefore, OtherSide, NoSupply}
 use Rattle.duct_units.specs.declared.side.Side.{Side}
@@ -47,6 +49,17 @@ is_leaf t s = nat_lt s (section_count t) && length (children t s) == 0
 
 abbrev pub leaves : Tree → Side → List ℕ
 leaves t x = filter (λ s. same_side (side t s) x && is_leaf t s) (sections t)
+
+-- the leaves of both sides
+abbrev pub all_leaves : Tree → List ℕ
+all_leaves t = filter (is_leaf t) (sections t)
+
+-- a section at the fan
+abbrev pub is_root : Tree → ℕ → Bool
+is_root t s = nat_lt s (section_count t) && is_none (neighbour t s)
+
+abbrev pub roots : Tree → Side → List ℕ
+roots t x = filter (λ s. same_side (side t s) x && is_root t s) (sections t)
 
 abbrev pub from_neighbour : (ℕ → List ℕ) → Option ℕ → List ℕ
 from_neighbour way_from None = []

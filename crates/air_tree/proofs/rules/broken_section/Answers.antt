@@ -1,7 +1,7 @@
 use Rattle.std.proofs.Common.{◌∙◌, sym, length}
 use Rattle.duct_definitions.specs.Tree.{section_rules, Tree}
 use Rattle.duct_units.proofs.RuleLaws.{broken_past, broken_here}
-use Rattle.air_tree.proofs.tree.broken_section.Goals as goal
+use Rattle.air_tree.proofs.rules.broken_section.Goals as goal
 
 pub loop-s-preserved : goal.loop-s-preserved
 loop-s-preserved c =

@@ -2,7 +2,7 @@ use Rattle.std.proofs.Common.{◌≡◌, ◌-◌, length}
 use Rattle.std.specs.List.{flat_map, range_with_len}
 use Rattle.duct_units.specs.Rules.{first_broken}
 use Rattle.duct_definitions.specs.Tree.{section_rules, Tree}
-use Rattle.air_tree.proofs.tree.broken_section.Given as goal
+use Rattle.air_tree.proofs.rules.broken_section.Given as goal
 
 abbrev pub invariant-loop-s : goal.invariant-loop-s
 invariant-loop-s l =
