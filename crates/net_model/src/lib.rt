@@ -1,10 +1,13 @@
-//! A network: a tree of sections with the losses and prices of their sizes, and the fans on offer.
+//! A network: a tree of sections with the losses and prices of their sizes, and the fans on offer; and what a design
+//! of it loses and costs.
 //!
 //! Pressures and losses are in dPa, money in cents. Sections, sizes and fans count from 0, in file order
 //! (docs/RULES.md, "Network").
 #![tactic(auto)]
 
+mod designs;
 mod network;
 
+pub use designs::{cost, meets, path_loss, worst};
 pub use duct_definitions::{Design, NetFan, Pair};
 pub use network::Network;

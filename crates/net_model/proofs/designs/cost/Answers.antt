@@ -1,0 +1,39 @@
+use Rattle.std.proofs.Common.{◌≡◌, ◌<◌, ◌≤◌, ◌+◌, ℕ, ap, ◌∙◌, sym, subst, arith}
+use Rattle.duct_definitions.specs.declared.design.NetFan.{NetFan}
+use Rattle.duct_definitions.specs.Tree.{Tree, section_count}
+use Rattle.duct_definitions.specs.Network.{IsFan, fan_at}
+use Rattle.duct_definitions.specs.Designs.{pair_of, price_of, cost}
+use Rattle.net_model.proofs.DesignSums.{IsAdded, added-none, added-more, added-fits, added-all, cost-le}
+use Rattle.net_model.proofs.designs.cost.Goals as goal
+
+pub overflow_add-cost : goal.overflow_add-cost
+overflow_add-cost c =
+    let net = c.args.net.now in
+    let d = c.args.d.now in
+    let fan = subst (λ (f : NetFan). IsFan f) c.fan-cost.ensures.value c.fan-cost.ensures.bounds in
+    let all : c.len-s-end.result ≡ section_count net.tree = c.len-s-end.ensures.value ∙ ap (λ (t : Tree). section_count t) c.tree.ensures.tree in
+    let fits = added-fits net d c.loop-s.s c.loop-s.cost c.tree.ensures.network fan (omega arith) c.loop-s.invariant in
+    let is : c.price_at-cost.result ≡ price_of (pair_of net d c.loop-s.s) = c.price_at-cost.ensures in
+    omega arith
+
+pub loop-s-init : goal.loop-s-init
+loop-s-init c =
+    subst (λ (fan : NetFan). IsAdded c.args.net.now c.args.d.now 0 fan.cost) (sym c.fan-cost.ensures.value) (added-none c.args.net.now c.args.d.now)
+
+pub loop-s-preserved : goal.loop-s-preserved
+loop-s-preserved c =
+    let net = c.args.net.now in
+    let d = c.args.d.now in
+    let all : c.len-s-end.result ≡ section_count net.tree = c.len-s-end.ensures.value ∙ ap (λ (t : Tree). section_count t) c.tree.ensures.tree in
+    subst (λ (price : ℕ). IsAdded net d (c.loop-s.s + 1) (c.loop-s.cost + price)) (sym c.price_at-cost.ensures)
+    (added-more net d c.loop-s.s c.loop-s.cost (omega arith) c.loop-s.invariant)
+
+pub returns : goal.returns
+returns c =
+    let net = c.args.net.now in
+    let d = c.args.d.now in
+    let fan = subst (λ (f : NetFan). IsFan f) c.fan-cost.ensures.value c.fan-cost.ensures.bounds in
+    let all : c.len-s-end.result ≡ section_count net.tree = c.len-s-end.ensures.value ∙ ap (λ (t : Tree). section_count t) c.tree.ensures.tree in
+    let whole : c.loop-s.cost ≡ cost net d = added-all net d c.loop-s.s c.loop-s.cost (omega arith) c.loop-s.invariant in
+    let most = cost-le net d c.tree.ensures.network fan in
+    record { value = whole; bound = omega arith }
