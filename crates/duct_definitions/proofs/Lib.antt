@@ -2,3 +2,5 @@ pub mod OrderLaws
 pub mod TreeLaws
 pub mod SectionLists
 pub mod WayLaws
+pub mod Below
+pub mod Valid

@@ -61,8 +61,9 @@ pub fn cost(net: &Network, d: &Design) -> u64
     ensures value { result ≡ cost net.now d.now }
     ensures bound { result ≤ MAX_SECTIONS * MAX_PRICE + MAX_FAN_COST }
 {
+    let tree = net.tree();
     let mut cost = net.fan(d.fan).cost;
-    for s in 0..net.tree().len() {
+    for s in 0..tree.len() {
         cost += price_at(net, d, s);
     }
     cost

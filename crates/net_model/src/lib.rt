@@ -11,3 +11,6 @@ mod network;
 pub use designs::{cost, meets, path_loss, worst};
 pub use duct_definitions::{Design, NetFan, Pair};
 pub use network::Network;
+
+#[cfg(test)]
+mod tests;

@@ -11,8 +11,8 @@ overflow_add-cost c =
     let net = c.args.net.now in
     let d = c.args.d.now in
     let fan = subst (λ (f : NetFan). IsFan f) c.fan-cost.ensures.value c.fan-cost.ensures.bounds in
-    let all : c.len-s-end.result ≡ section_count net.tree = c.len-s-end.ensures.value ∙ ap (λ (t : Tree). section_count t) c.tree.ensures.tree in
-    let fits = added-fits net d c.loop-s.s c.loop-s.cost c.tree.ensures.network fan (omega arith) c.loop-s.invariant in
+    let all : c.len-s-end.result ≡ section_count net.tree = c.len-s-end.ensures.value ∙ ap (λ (t : Tree). section_count t) c.tree-tree.ensures.tree in
+    let fits = added-fits net d c.loop-s.s c.loop-s.cost c.tree-tree.ensures.network fan (omega arith) c.loop-s.invariant in
     let is : c.price_at-cost.result ≡ price_of (pair_of net d c.loop-s.s) = c.price_at-cost.ensures in
     omega arith
 
@@ -24,7 +24,7 @@ pub loop-s-preserved : goal.loop-s-preserved
 loop-s-preserved c =
     let net = c.args.net.now in
     let d = c.args.d.now in
-    let all : c.len-s-end.result ≡ section_count net.tree = c.len-s-end.ensures.value ∙ ap (λ (t : Tree). section_count t) c.tree.ensures.tree in
+    let all : c.len-s-end.result ≡ section_count net.tree = c.len-s-end.ensures.value ∙ ap (λ (t : Tree). section_count t) c.tree-tree.ensures.tree in
     subst (λ (price : ℕ). IsAdded net d (c.loop-s.s + 1) (c.loop-s.cost + price)) (sym c.price_at-cost.ensures)
     (added-more net d c.loop-s.s c.loop-s.cost (omega arith) c.loop-s.invariant)
 
@@ -33,7 +33,7 @@ returns c =
     let net = c.args.net.now in
     let d = c.args.d.now in
     let fan = subst (λ (f : NetFan). IsFan f) c.fan-cost.ensures.value c.fan-cost.ensures.bounds in
-    let all : c.len-s-end.result ≡ section_count net.tree = c.len-s-end.ensures.value ∙ ap (λ (t : Tree). section_count t) c.tree.ensures.tree in
+    let all : c.len-s-end.result ≡ section_count net.tree = c.len-s-end.ensures.value ∙ ap (λ (t : Tree). section_count t) c.tree-tree.ensures.tree in
     let whole : c.loop-s.cost ≡ cost net d = added-all net d c.loop-s.s c.loop-s.cost (omega arith) c.loop-s.invariant in
-    let most = cost-le net d c.tree.ensures.network fan in
+    let most = cost-le net d c.tree-tree.ensures.network fan in
     record { value = whole; bound = omega arith }
