@@ -9,7 +9,7 @@ use Rattle.std.specs.Prelude.{◌==◌, ◌&&◌, nat_lt, filter, count_by, IfSo
 use Rattle.std.specs.List.{range_with_len}
 use Rattle.duct_definitions.specs.Tree.{Tree, section_count, sections, is_number, children, is_leaf}
 use Rattle.duct_definitions.proofs.SectionLists.{chosen-push}
-use Rattle.air_tree.proofs.ListLaws.{child_list}
+use Rattle.air_tree.proofs.ListLaws.{child_list_at}
 use Rattle.air_tree.specs.TreeLists.{neighbour_in, StandEarlier, children_among}
 
 -- each place has what f makes of the children among the first sections
@@ -120,10 +120,10 @@ chosen-no test s xs are is =
     ∙ ap (λ b. filter test (range_with_len 0 s) ++ cond b (s ∷ []) []) (sym is) ∙ sym (chosen-push test s)
 
 -- a section that is in the tree is a leaf where its list of children is empty
-pub leaf-here : (t : Tree) (lists : List (List ℕ)) (s : ℕ) (found : List ℕ) (empty : Bool)
-    → lists ≡ map (children t) (sections t) → s < section_count t → found ≡ get_or lists s found → empty ≡ (length found == 0)
+pub leaf-here : (t : Tree) (lists : List (List ℕ)) (s : ℕ) (empty : Bool)
+    → lists ≡ map (children t) (sections t) → s < section_count t → empty ≡ (length (get_or lists s []) == 0)
     → is_leaf t s ≡ empty
-leaf-here t lists s found empty are within at is =
+leaf-here t lists s empty are within is =
     let test : nat_lt s (section_count t) ≡ true = lt-ltb s (section_count t) within in
     ap (λ b. b && length (children t s) == 0) test
-    ∙ ap (λ xs. length xs == 0) (sym (child_list t lists s found are within at)) ∙ sym is
+    ∙ ap (λ xs. length xs == 0) (sym (child_list_at t lists s [] are within)) ∙ sym is

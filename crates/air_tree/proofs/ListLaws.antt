@@ -8,11 +8,14 @@ use Rattle.duct_definitions.specs.Tree.{Tree, IsTree, section_count, sections, n
 use Rattle.duct_definitions.proofs.SectionLists.{chosen_rising, chosen_below, chosen_pass, children_later, child_once, leaves_of_side}
 
 -- the list that stands at s among the lists of all sections
+pub child_list_at : (t : Tree) (lists : List (List ℕ)) (s : ℕ) (d : List ℕ)
+    → lists ≡ map (children t) (sections t) → s < section_count t → get_or lists s d ≡ children t s
+child_list_at t lists s d are within =
+    ap (λ all. get_or all s d) are ∙ get_or-map-range_with_len (children t) 0 (section_count t) s s d within (omega arith)
+
 pub child_list : (t : Tree) (lists : List (List ℕ)) (s : ℕ) (found : List ℕ)
     → lists ≡ map (children t) (sections t) → s < section_count t → found ≡ get_or lists s found → found ≡ children t s
-child_list t lists s found are within at =
-    at ∙ ap (λ all. get_or all s found) are
-    ∙ get_or-map-range_with_len (children t) 0 (section_count t) s s found within (omega arith)
+child_list t lists s found are within at = at ∙ child_list_at t lists s found are within
 
 pub child_list_within : (t : Tree) (lists : List (List ℕ)) (s : ℕ)
     → lists ≡ map (children t) (sections t) → s < section_count t → s < length lists

@@ -1,7 +1,7 @@
 //! The lists that a tree keeps, so that it gives them without a search: children, leaves and roots.
 //!
 //! Each takes one walk over the sections to count and one to fill, and memory for just what it holds.
-ghost use Rattle.std.specs.Prelude.{◌≡◌, ◌<◌, ◌≤◌, ◌&&◌, [], length, map, IfOk};
+ghost use Rattle.std.specs.Prelude.{◌≡◌, ◌<◌, ◌≤◌, ◌&&◌, ◌==◌, [], length, map, slice_index_or, IfOk};
 ghost use Rattle.duct_definitions.specs.Tree.{Tree, side as side_of, same_side, is_root, all_leaves, roots};
 ghost use Rattle.air_tree.specs.TreeLists.{StandEarlier, lists_of, counts_of};
 
@@ -80,11 +80,18 @@ pub fn leaf_list(
         .count();
     let mut leaves = Vec::with_capacity(alloc, count)?;
     for s in 0..child_lists.len() {
-        if child_lists[s].as_slice().is_empty() {
+        if is_childless(child_lists, s) {
             leaves.push(s as u32)?;
         }
     }
     Ok(List::from_vec(leaves))
+}
+
+fn is_childless(child_lists: &[List<u32>], s: usize) -> bool
+    requires { s < length child_lists.now }
+    ensures { result ≡ (length (slice_index_or child_lists.now s []) == 0) }
+{
+    child_lists[s].as_slice().is_empty()
 }
 
 /// The sections of a side that stand at the fan, in rising number.
