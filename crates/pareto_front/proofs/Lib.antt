@@ -1,0 +1,4 @@
+pub mod Cuts
+pub mod Falls
+pub mod Prices
+pub mod Steps

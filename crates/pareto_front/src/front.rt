@@ -1,0 +1,73 @@
+//! A front: what each budget of pressure buys at the least cost.
+ghost use Rattle.std.specs.Prelude.{◌≡◌, ℕ, ◌+◌, ◌<◌, ◌≤◌, ◌^◌, ◌↔◌, [], ◌∷◌, All, IfOk, IsNone};
+ghost use Rattle.std.specs.Option.{ForSome};
+ghost use Rattle.pareto_front.specs.Front.{IsFront, IsBelowFirst, cheapest, shifted};
+
+use crate::point::Point;
+use crate::reading::{last_cost, points_within};
+use duct_units::{List, NoMemory};
+use std::alloc::Global;
+use std::marker::Model;
+
+/// Points in rising need and falling cost. A contract sees the list of them.
+#[derive(Debug, Drop)]
+pub struct Front {
+    points: List<Point>,
+}
+
+impl Model for Front {
+    ghost use Rattle.std.specs.Prelude.{List as Sequence};
+    ghost use Rattle.pareto_front.specs.declared.point.Point.{Point};
+
+    ghost Value = { Sequence Point };
+
+    ghost use Rattle.pareto_front.specs.Front.{IsFront};
+
+    ghost view = { λ front. front.points };
+
+    ghost invariant = { λ front. IsFront front.points };
+}
+
+impl Front {
+    /// The front of what can't be had at any budget.
+    pub fn empty(alloc: Global) -> Front
+        ensures { result ≡ [] }
+    {
+        Front {
+            points: List::from_vec(Vec::new(alloc)),
+        }
+    }
+
+    /// The front of what needs nothing and costs nothing.
+    pub fn zero(alloc: Global) -> Result<Front, NoMemory>
+        ensures { IfOk result (λ front. front ≡ record { need = 0; cost = 0 } ∷ []) }
+    {
+        let points = vec![in alloc; Point { need: 0, cost: 0 }]?;
+        Ok(Front {
+            points: List::from_vec(points),
+        })
+    }
+
+    pub fn from_points(points: List<Point>) -> Front
+        requires { IsFront points }
+        ensures { result ≡ points }
+    {
+        Front { points }
+    }
+
+    pub fn points(&self) -> &[Point]
+        ensures value { result.now ≡ self.now }
+        ensures front { IsFront self.now }
+    {
+        self.points.as_slice()
+    }
+
+    /// The cost of the last point whose need is within the budget, in steps that grow with the
+    /// logarithm of the number of points.
+    pub fn cheapest(&self, budget: u64) -> Option<u64>
+        ensures value { result ≡ cheapest self.now budget }
+        ensures none { IsNone result ↔ IsBelowFirst budget self.now }
+    {
+        last_cost(points_within(self.points(), budget))
+    }
+}

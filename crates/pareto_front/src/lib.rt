@@ -1,0 +1,12 @@
+//! Exact Pareto fronts: what each budget of pressure buys at the least cost.
+//!
+//! Needs, losses and budgets are in dPa, costs and prices in cents. Of a front's points each needs
+//! more and costs less than the one before it.
+#![tactic(auto)]
+
+mod front;
+mod point;
+mod reading;
+
+pub use front::Front;
+pub use point::Point;
