@@ -1,4 +1,5 @@
 pub mod Cuts
 pub mod Falls
 pub mod Prices
+pub mod Shifts
 pub mod Steps

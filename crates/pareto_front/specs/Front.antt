@@ -29,6 +29,10 @@ abbrev pub IsBelowFirst : ℕ → List Point → Type 0
 IsBelowFirst budget [] = ⊤
 IsBelowFirst budget (first ∷ later) = budget < first.need
 
+-- the point with the loss added to its need and the price to its cost
+abbrev pub moved_by : ℕ → ℕ → Point → Point
+moved_by loss price point = record { need = point.need + loss; cost = point.cost + price }
+
 -- the cheapest of what needs the loss more and costs the price more
 abbrev pub shifted : List Point → ℕ → ℕ → ℕ → Option ℕ
 shifted front loss price budget = if nat_le loss budget then option_map (λ cost. cost + price) (cheapest front (budget - loss)) else None

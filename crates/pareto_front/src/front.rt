@@ -1,7 +1,7 @@
 //! A front: what each budget of pressure buys at the least cost.
-ghost use Rattle.std.specs.Prelude.{◌≡◌, ℕ, ◌+◌, ◌<◌, ◌≤◌, ◌^◌, ◌↔◌, [], ◌∷◌, All, IfOk, IsNone};
+ghost use Rattle.std.specs.Prelude.{◌≡◌, ℕ, ◌+◌, ◌<◌, ◌≤◌, ◌^◌, ◌↔◌, [], ◌∷◌, All, IfOk, IsNone, map};
 ghost use Rattle.std.specs.Option.{ForSome};
-ghost use Rattle.pareto_front.specs.Front.{IsFront, IsBelowFirst, cheapest, shifted};
+ghost use Rattle.pareto_front.specs.Front.{IsFront, IsBelowFirst, cheapest, moved_by, shifted};
 
 use crate::point::Point;
 use crate::reading::{last_cost, points_within};
@@ -70,4 +70,38 @@ impl Front {
     {
         last_cost(points_within(self.points(), budget))
     }
+
+    /// What needs the loss more, dPa, and costs the price more, cents, up to the need `cap`.
+    ///
+    /// The front that is made takes the room of its points.
+    pub fn shift(&self, alloc: Global, loss: u64, price: u64, cap: u64) -> Result<Front, NoMemory>
+        requires fits { All (λ point. point.cost + price < 2 ^ 64) self.now }
+        ensures value { IfOk result (λ front. (budget : ℕ) → budget ≤ cap →
+            cheapest front budget ≡ shifted self.now loss price budget) }
+        ensures capped { IfOk result (λ front. All (λ point. point.need ≤ cap) front) }
+    {
+        let Some(room) = cap.checked_sub(loss) else {
+            return Ok(Front::empty(alloc));
+        };
+        let points = moved(alloc, points_within(self.points(), room), loss, price)?;
+        Ok(Front {
+            points: List::from_vec(points),
+        })
+    }
+}
+
+/// The points with the loss added to each need, dPa, and the price to each cost, cents.
+fn moved(alloc: Global, points: &[Point], loss: u64, price: u64) -> Result<Vec<Point>, NoMemory>
+    requires needs { All (λ point. point.need + loss < 2 ^ 64) points.now }
+    requires costs { All (λ point. point.cost + price < 2 ^ 64) points.now }
+    ensures { IfOk result (λ v. v.items ≡ map (moved_by loss price) points.now) }
+{
+    let mut all = Vec::with_capacity(alloc, points.len())?;
+    for point in points {
+        all.push(Point {
+            need: point.need + loss,
+            cost: point.cost + price,
+        })?;
+    }
+    Ok(all)
 }

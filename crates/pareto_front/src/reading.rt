@@ -1,5 +1,5 @@
 //! The part of a front that is within a need.
-ghost use Rattle.std.specs.Prelude.{◌≡◌, ℕ, ◌-◌, ◌≤◌, All, length, slice_get};
+ghost use Rattle.std.specs.Prelude.{◌≡◌, ℕ, ◌-◌, ◌≤◌, All, length, slice_get, take};
 ghost use Rattle.std.specs.Option.{option_map};
 ghost use Rattle.pareto_front.specs.Front.{IsFront, cheapest};
 
@@ -8,6 +8,7 @@ use crate::point::Point;
 /// The points that need no more than this, dPa.
 pub(crate) fn points_within(points: &[Point], need: u64) -> &[Point]
     requires { IsFront points.now }
+    ensures part { result.now ≡ take (length result.now) points.now }
     ensures front { IsFront result.now }
     ensures within { All (λ point. point.need ≤ need) result.now }
     ensures prices { (budget : ℕ) → budget ≤ need →

@@ -1,0 +1,60 @@
+-- A front whose points all need a loss more and cost a price more.
+use Rattle.std.proofs.Common.{◌≡◌, ℕ, ◌+◌, ◌-◌, ◌<◌, ◌≤◌, List, [], ◌∷◌, map, Option, Some, None, refl, ap, sym, ◌∙◌, arith, inl, inr, nat_le}
+use Rattle.std.specs.Prelude.{All, if◌then◌else◌}
+use Rattle.std.specs.Option.{option_or, option_map}
+use Rattle.std.proofs.lemmas.Bool.Decides.{leb_tells}
+use Rattle.std.proofs.lemmas.List.Elements.{All-map, All-weaker}
+use Rattle.pareto_front.specs.declared.point.Point.{Point}
+use Rattle.pareto_front.specs.Front.{IsBefore, IsFront, cheapest, moved_by, shifted}
+use Rattle.pareto_front.proofs.Prices.{at_point, at_point-within, at_point-above}
+
+option_map-or : (f : ℕ → ℕ) (x y : Option ℕ) → option_map f (option_or x y) ≡ option_or (option_map f x) (option_map f y)
+option_map-or f None y = refl
+option_map-or f (Some c) y = refl
+
+module _ (loss price : ℕ) where
+  IsBefore-moved : (p : Point) (ps : List Point) → IsBefore p ps → IsBefore (moved_by loss price p) (map (moved_by loss price) ps)
+  IsBefore-moved p [] before = tt
+  IsBefore-moved p (q ∷ ps) before = (let more = before.0 in omega arith, let less = before.1 in omega arith)
+
+  -- a front whose points move together is one
+  pub IsFront-moved : (ps : List Point) → IsFront ps → IsFront (map (moved_by loss price) ps)
+  IsFront-moved [] front = tt
+  IsFront-moved (p ∷ ps) front = (IsBefore-moved p ps front.0, IsFront-moved ps front.1)
+
+  at_point-moved : (p : Point) (b : ℕ) → loss ≤ b → at_point (moved_by loss price p) b ≡ option_map (λ c. c + price) (at_point p (b - loss))
+  at_point-moved p b enough = elim (leb_tells p.need (b - loss)) [
+    | inl within ↦ (let w = within.1 in at_point-within (moved_by loss price p) b (omega arith) ∙ ap (option_map (λ c. c + price)) (sym (at_point-within p (b - loss) w)))
+    | inr above ↦ (let a = above.1 in at_point-above (moved_by loss price p) b (omega arith) ∙ ap (option_map (λ c. c + price)) (sym (at_point-above p (b - loss) a)))
+  ]
+
+  cheapest-moved_from : (ps : List Point) (b : ℕ) → loss ≤ b → cheapest (map (moved_by loss price) ps) b ≡ option_map (λ c. c + price) (cheapest ps (b - loss))
+  cheapest-moved_from [] b enough = refl
+  cheapest-moved_from (p ∷ ps) b enough =
+      ap (λ o. option_or o (at_point (moved_by loss price p) b)) (cheapest-moved_from ps b enough)
+      ∙ ap (option_or (option_map (λ c. c + price) (cheapest ps (b - loss)))) (at_point-moved p b enough)
+      ∙ sym (option_map-or (λ c. c + price) (cheapest ps (b - loss)) (at_point p (b - loss)))
+
+  cheapest-moved_below : (ps : List Point) (b : ℕ) → b < loss → cheapest (map (moved_by loss price) ps) b ≡ None
+  cheapest-moved_below [] b below = refl
+  cheapest-moved_below (p ∷ ps) b below =
+      ap (λ o. option_or o (at_point (moved_by loss price p) b)) (cheapest-moved_below ps b below)
+      ∙ at_point-above (moved_by loss price p) b (omega arith)
+
+  -- its cheapest is the shifted one
+  pub cheapest-moved : (ps : List Point) (b : ℕ) → cheapest (map (moved_by loss price) ps) b ≡ shifted ps loss price b
+  cheapest-moved ps b = elim (leb_tells loss b) [
+    | inl enough ↦ cheapest-moved_from ps b enough.1 ∙ sym (ap (λ v. if v then option_map (λ c. c + price) (cheapest ps (b - loss)) else None) enough.0)
+    | inr below ↦ cheapest-moved_below ps b below.1 ∙ sym (ap (λ v. if v then option_map (λ c. c + price) (cheapest ps (b - loss)) else None) below.0)
+  ]
+
+  -- where a part of a front has its prices up to the room, the moved part has the shifted ones up to the cap
+  pub cheapest-moved_part : (ps part : List Point) (cap room : ℕ) → loss ≤ cap → room ≡ cap - loss → ((b : ℕ) → b ≤ room → cheapest part b ≡ cheapest ps b)
+      → (b : ℕ) → b ≤ cap → cheapest (map (moved_by loss price) part) b ≡ shifted ps loss price b
+  cheapest-moved_part ps part cap room enough is prices b within =
+      cheapest-moved part b ∙ ap (λ o. if nat_le loss b then option_map (λ c. c + price) o else None) (prices (b - loss) (omega arith))
+
+  -- and no need above the cap
+  pub moved_within : (part : List Point) (cap room : ℕ) → loss ≤ cap → room ≡ cap - loss → All (λ p. p.need ≤ room) part → All (λ p. p.need ≤ cap) (map (moved_by loss price) part)
+  moved_within part cap room enough is within =
+      All-map (λ p. p.need ≤ cap) (moved_by loss price) part (All-weaker (λ p. p.need ≤ room) (λ p. p.need + loss ≤ cap) (λ p h. omega arith) part within)
