@@ -1,5 +1,11 @@
+pub mod Costs
 pub mod Cuts
+pub mod Even
 pub mod Falls
+pub mod Lessers
 pub mod Prices
+pub mod ReadOn
 pub mod Shifts
 pub mod Steps
+pub mod Sums
+pub mod Swept

@@ -1,15 +1,60 @@
--- How far the points of a front are read in a sweep over rising needs.
---   next_need points i         the need of the point at i, if there is one
---   IsReadTo need points i     the first i points need less than this, and the others don't
-use Rattle.std.specs.Prelude.{ℕ, ◌<◌, ◌≤◌, List, Option, slice_get, take, drop, All}
+-- A sweep over the needs of two fronts, in rising order.
+--   next_need points i        the need of the point at i, if there is one
+--   IsReadTo need points i    the first i points need less than this, and the others don't
+--   Progress                  the points of both fronts, and how many of each are read
+--   IsEven progress           both are fronts, and both are read up to one need
+--   Steps old new step        the sweep goes on to the next need of the two, and past it
+use Rattle.std.specs.Prelude.{◌≡◌, ℕ, ◌+◌, ◌-◌, ◌<◌, ◌≤◌, ◌⊎◌, List, Option, Some, length, slice_get, take, drop, All}
 use Rattle.std.specs.Option.{option_map}
 use Rattle.pareto_front.specs.declared.point.Point.{Point}
+use Rattle.pareto_front.specs.declared.sweep.Step.{Step}
+use Rattle.pareto_front.specs.Front.{IsFront, cheapest}
+
+pub record Progress : Type 0 where
+  pub left : List Point
+  pub right : List Point
+  pub left_read : ℕ
+  pub right_read : ℕ
+
+-- the cost of a point that a front offers
+abbrev pub cost_of : Option Point → Option ℕ
+cost_of point = option_map (λ p. p.cost) point
+
+-- the cost of the last point
+abbrev pub last_cost : List Point → Option ℕ
+last_cost points = cost_of (slice_get points (length points - 1))
 
 -- the need of the next point, where i are read
 abbrev pub next_need : List Point → ℕ → Option ℕ
 next_need points i = option_map (λ point. point.need) (slice_get points i)
 
+-- how many points are left to read
+abbrev pub points_left : Progress → ℕ
+points_left at = (length at.left - at.left_read) + (length at.right - at.right_read)
+
 -- the first i points are those that need less than this
 pub record IsReadTo (need : ℕ) (points : List Point) (i : ℕ) : Type 0 where
   pub read : All (λ point. point.need < need) (take i points)
   pub rest : All (λ point. need ≤ point.need) (drop i points)
+
+-- both are fronts, and both are read up to one need
+pub record IsEven (at : Progress) : Type 0 where
+  pub need : ℕ
+  pub left_front : IsFront at.left
+  pub right_front : IsFront at.right
+  pub left : IsReadTo need at.left at.left_read
+  pub right : IsReadTo need at.right at.right_read
+
+-- the sweep goes from the next need to just past it, with the prices of both fronts there
+pub record Steps (old new : Progress) (step : Step) : Type 0 where
+  pub left_front : IsFront old.left
+  pub right_front : IsFront old.right
+  pub same_left : new.left ≡ old.left
+  pub same_right : new.right ≡ old.right
+  pub reached : (next_need old.left old.left_read ≡ Some step.need) ⊎ (next_need old.right old.right_read ≡ Some step.need)
+  pub left_before : IsReadTo step.need old.left old.left_read
+  pub right_before : IsReadTo step.need old.right old.right_read
+  pub left_after : IsReadTo (step.need + 1) new.left new.left_read
+  pub right_after : IsReadTo (step.need + 1) new.right new.right_read
+  pub left_price : cost_of step.left ≡ cheapest old.left step.need
+  pub right_price : cost_of step.right ≡ cheapest old.right step.need

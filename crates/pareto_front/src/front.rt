@@ -1,8 +1,9 @@
 //! A front: what each budget of pressure buys at the least cost.
 ghost use Rattle.std.specs.Prelude.{◌≡◌, ℕ, ◌+◌, ◌<◌, ◌≤◌, ◌^◌, ◌↔◌, [], ◌∷◌, All, IfOk, IsNone, map};
 ghost use Rattle.std.specs.Option.{ForSome};
-ghost use Rattle.pareto_front.specs.Front.{IsFront, IsBelowFirst, cheapest, moved_by, shifted};
+ghost use Rattle.pareto_front.specs.Front.{IsFront, IsBelowFirst, cheapest, lesser, moved_by, shifted, sum_of_both};
 
+use crate::merge::{lessers, sums};
 use crate::point::Point;
 use crate::reading::{last_cost, points_within};
 use duct_units::{List, NoMemory};
@@ -84,6 +85,34 @@ impl Front {
             return Ok(Front::empty(alloc));
         };
         let points = moved(alloc, points_within(self.points(), room), loss, price)?;
+        Ok(Front {
+            points: List::from_vec(points),
+        })
+    }
+
+    /// At each budget the cheaper of the two, or the one that is there.
+    ///
+    /// Takes room for the points of both at once, of which those that are never the cheaper stay free.
+    pub fn either(alloc: Global, a: &Front, b: &Front) -> Result<Front, NoMemory>
+        ensures value { IfOk result (λ front. (budget : ℕ) →
+            cheapest front budget ≡ lesser (cheapest a.now budget) (cheapest b.now budget)) }
+    {
+        let points = lessers(alloc, a.points(), b.points())?;
+        Ok(Front {
+            points: List::from_vec(points),
+        })
+    }
+
+    /// At each budget the two together, where both are there. Both share the budget, so needs don't add.
+    ///
+    /// Takes room for the points of both at once, of which those below the need of either stay free.
+    pub fn both(alloc: Global, a: &Front, b: &Front) -> Result<Front, NoMemory>
+        requires fits { (budget : ℕ) → ForSome
+            (sum_of_both (cheapest a.now budget) (cheapest b.now budget)) (λ cost. cost < 2 ^ 64) }
+        ensures value { IfOk result (λ front. (budget : ℕ) →
+            cheapest front budget ≡ sum_of_both (cheapest a.now budget) (cheapest b.now budget)) }
+    {
+        let points = sums(alloc, a.points(), b.points())?;
         Ok(Front {
             points: List::from_vec(points),
         })

@@ -5,8 +5,10 @@
 #![tactic(auto)]
 
 mod front;
+mod merge;
 mod point;
 mod reading;
+mod sweep;
 
 pub use front::Front;
 pub use point::Point;

@@ -1,7 +1,7 @@
 //! The part of a front that is within a need.
-ghost use Rattle.std.specs.Prelude.{◌≡◌, ℕ, ◌-◌, ◌≤◌, All, length, slice_get, take};
-ghost use Rattle.std.specs.Option.{option_map};
+ghost use Rattle.std.specs.Prelude.{◌≡◌, ℕ, ◌≤◌, All, length, take};
 ghost use Rattle.pareto_front.specs.Front.{IsFront, cheapest};
+ghost use Rattle.pareto_front.specs.Sweep.{last_cost};
 
 use crate::point::Point;
 
@@ -20,8 +20,7 @@ pub(crate) fn points_within(points: &[Point], need: u64) -> &[Point]
 
 /// The cost of the last point.
 pub(crate) fn last_cost(points: &[Point]) -> Option<u64>
-    ensures { result
-        ≡ option_map (λ point. point.cost) (slice_get points.now (length points.now - 1)) }
+    ensures { result ≡ last_cost points.now }
 {
     points.last().map(|point| point.cost)
 }

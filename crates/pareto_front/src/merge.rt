@@ -1,0 +1,92 @@
+//! Two fronts in one, by one sweep over their needs.
+ghost use Rattle.std.specs.Prelude.{◌≡◌, ℕ, ◌<◌, ◌≤◌, ◌^◌, IfOk, IfSome, IfNone, IsSomeAnd, Some};
+ghost use Rattle.std.specs.Option.{ForSome};
+ghost use Rattle.pareto_front.specs.Front.{IsFront, cheapest, lesser, sum_of_both};
+ghost use Rattle.pareto_front.specs.Sweep.{cost_of, last_cost};
+
+use crate::point::Point;
+use crate::sweep::{Step, Sweep};
+use duct_units::NoMemory;
+use std::alloc::Global;
+
+/// The points at which the cheaper of two fronts gets cheaper.
+pub(crate) fn lessers(alloc: Global, a: &[Point], b: &[Point]) -> Result<Vec<Point>, NoMemory>
+    requires a_front { IsFront a.now }
+    requires b_front { IsFront b.now }
+    ensures front { IfOk result (λ v. IsFront v.items) }
+    ensures prices { IfOk result (λ v. (budget : ℕ) →
+        cheapest v.items budget ≡ lesser (cheapest a.now budget) (cheapest b.now budget)) }
+{
+    let mut points = Vec::with_capacity(alloc, a.len() + b.len())?;
+    let mut sweep = Sweep::start(a, b);
+    while let Some(step) = sweep.next() {
+        let Some(point) = cheaper_than(points.as_slice(), step) else {
+            continue;
+        };
+        points.push(point)?;
+    }
+    Ok(points)
+}
+
+/// The points of what two fronts cost together, from the first need on at which both are there.
+pub(crate) fn sums(alloc: Global, a: &[Point], b: &[Point]) -> Result<Vec<Point>, NoMemory>
+    requires a_front { IsFront a.now }
+    requires b_front { IsFront b.now }
+    requires fits { (budget : ℕ) →
+        ForSome (sum_of_both (cheapest a.now budget) (cheapest b.now budget)) (λ cost. cost < 2 ^ 64) }
+    ensures front { IfOk result (λ v. IsFront v.items) }
+    ensures prices { IfOk result (λ v. (budget : ℕ) →
+        cheapest v.items budget ≡ sum_of_both (cheapest a.now budget) (cheapest b.now budget)) }
+{
+    let mut points = Vec::with_capacity(alloc, a.len() + b.len())?;
+    let mut sweep = Sweep::start(a, b);
+    while let Some(step) = sweep.next() {
+        let Some(point) = sum(step) else {
+            continue;
+        };
+        points.push(point)?;
+    }
+    Ok(points)
+}
+
+/// What the cheaper front offers at the step, where that costs less than the last point.
+fn cheaper_than(points: &[Point], step: Step) -> Option<Point>
+    ensures need { IfSome result (λ point. point.need ≡ step.need) }
+    ensures cost { IfSome result (λ point. lesser (cost_of step.left) (cost_of step.right) ≡ Some point.cost) }
+    ensures less { IfSome result (λ point. ForSome (last_cost points.now) (λ last. point.cost < last)) }
+    ensures none { IfNone result (ForSome (lesser (cost_of step.left) (cost_of step.right)) (λ cost. IsSomeAnd (last_cost points.now) (λ last. last ≤ cost))) }
+{
+    let cost = lesser_cost(step)?;
+    match points.last() {
+        Some(last) if last.cost <= cost => None,
+        _ => Some(Point {
+            need: step.need,
+            cost,
+        }),
+    }
+}
+
+/// What the cheaper front costs at the step, cents.
+fn lesser_cost(step: Step) -> Option<u64>
+    ensures { result ≡ lesser (cost_of step.left) (cost_of step.right) }
+{
+    match (step.left, step.right) {
+        (Some(p), Some(q)) => Some(p.cost.min(q.cost)),
+        (one, None) | (None, one) => one.map(|point| point.cost),
+    }
+}
+
+/// What both fronts offer together at the step, where both offer a point.
+fn sum(step: Step) -> Option<Point>
+    requires { ForSome (sum_of_both (cost_of step.left) (cost_of step.right)) (λ cost. cost < 2 ^ 64) }
+    ensures need { IfSome result (λ point. point.need ≡ step.need) }
+    ensures cost { cost_of result ≡ sum_of_both (cost_of step.left) (cost_of step.right) }
+{
+    match (step.left, step.right) {
+        (Some(p), Some(q)) => Some(Point {
+            need: step.need,
+            cost: p.cost + q.cost,
+        }),
+        _ => None,
+    }
+}
