@@ -34,11 +34,11 @@ sum_was_none (Some x) None (Some u) (Some v) x_less y_less none = absurd (y_less
 sum_was_none (Some x) (Some y) (Some u) (Some v) x_less y_less none = absurd (cc)
 
 -- what is there is not above the lesser of it and another
-lesser_at_most_left : (x : ℕ) (y : Option ℕ) → IsSomeAnd (lesser (Some x) y) (λ c. c ≤ x)
+pub lesser_at_most_left : (x : ℕ) (y : Option ℕ) → IsSomeAnd (lesser (Some x) y) (λ c. c ≤ x)
 lesser_at_most_left x None = omega arith
 lesser_at_most_left x (Some y) = omega arith
 
-lesser_at_most_right : (x : Option ℕ) (y : ℕ) → IsSomeAnd (lesser x (Some y)) (λ c. c ≤ y)
+pub lesser_at_most_right : (x : Option ℕ) (y : ℕ) → IsSomeAnd (lesser x (Some y)) (λ c. c ≤ y)
 lesser_at_most_right None y = omega arith
 lesser_at_most_right (Some x) y = omega arith
 

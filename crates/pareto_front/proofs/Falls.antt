@@ -31,11 +31,11 @@ IsFront-parts (p ∷ ps) qs front =
     (All-same (Follows p) qs (drop (length ps) (ps ++ qs)) (sym (drop_at ps qs (length ps) refl)) (All-drop (Follows p) (length ps) (ps ++ qs) (IsFront-first p (ps ++ qs) front)))
     (IsFront-parts ps qs front.1)
 
-option_or-Some : (o p : Option ℕ) (x : ℕ) → option_or o p ≡ Some x → (o ≡ Some x) ⊎ (p ≡ Some x)
+pub option_or-Some : (o p : Option ℕ) (x : ℕ) → option_or o p ≡ Some x → (o ≡ Some x) ⊎ (p ≡ Some x)
 option_or-Some None p x is = inr is
 option_or-Some (Some y) p x is = inl is
 
-at_point-Some : (p : Point) (b x : ℕ) → at_point p b ≡ Some x → (p.need ≤ b) × (p.cost ≡ x)
+pub at_point-Some : (p : Point) (b x : ℕ) → at_point p b ≡ Some x → (p.need ≤ b) × (p.cost ≡ x)
 at_point-Some p b x is = grind (arith, nat_tests)
 
 -- a price is the cost of a point

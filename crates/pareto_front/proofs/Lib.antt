@@ -1,10 +1,13 @@
+pub mod Bounds
 pub mod Costs
 pub mod Cuts
 pub mod Even
 pub mod Falls
 pub mod Lessers
+pub mod Points
 pub mod Prices
 pub mod ReadOn
+pub mod Same
 pub mod Shifts
 pub mod Steps
 pub mod Sums

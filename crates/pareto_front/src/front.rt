@@ -1,5 +1,5 @@
 //! A front: what each budget of pressure buys at the least cost.
-ghost use Rattle.std.specs.Prelude.{◌≡◌, ℕ, ◌+◌, ◌<◌, ◌≤◌, ◌^◌, ◌↔◌, [], ◌∷◌, All, IfOk, IsNone, map};
+ghost use Rattle.std.specs.Prelude.{◌≡◌, ℕ, ◌+◌, ◌<◌, ◌≤◌, ◌^◌, ◌↔◌, [], ◌∷◌, ◌++◌, All, Contains, IfOk, IsNone, map};
 ghost use Rattle.std.specs.Option.{ForSome};
 ghost use Rattle.pareto_front.specs.Front.{IsFront, IsBelowFirst, cheapest, lesser, moved_by, shifted, sum_of_both};
 
@@ -80,6 +80,8 @@ impl Front {
         ensures value { IfOk result (λ front. (budget : ℕ) → budget ≤ cap →
             cheapest front budget ≡ shifted self.now loss price budget) }
         ensures capped { IfOk result (λ front. All (λ point. point.need ≤ cap) front) }
+        ensures bounded { (most : ℕ) → All (λ point. point.cost ≤ most) self.now →
+            IfOk result (λ front. All (λ point. point.cost ≤ most + price) front) }
     {
         let Some(room) = cap.checked_sub(loss) else {
             return Ok(Front::empty(alloc));
@@ -96,6 +98,7 @@ impl Front {
     pub fn either(alloc: Global, a: &Front, b: &Front) -> Result<Front, NoMemory>
         ensures value { IfOk result (λ front. (budget : ℕ) →
             cheapest front budget ≡ lesser (cheapest a.now budget) (cheapest b.now budget)) }
+        ensures among { IfOk result (λ front. All (Contains (a.now ++ b.now)) front) }
     {
         let points = lessers(alloc, a.points(), b.points())?;
         Ok(Front {
@@ -111,6 +114,12 @@ impl Front {
             (sum_of_both (cheapest a.now budget) (cheapest b.now budget)) (λ cost. cost < 2 ^ 64) }
         ensures value { IfOk result (λ front. (budget : ℕ) →
             cheapest front budget ≡ sum_of_both (cheapest a.now budget) (cheapest b.now budget)) }
+        ensures needs { (most : ℕ) → All (λ point. point.need ≤ most) a.now →
+            All (λ point. point.need ≤ most) b.now →
+            IfOk result (λ front. All (λ point. point.need ≤ most) front) }
+        ensures bounded { (x y : ℕ) → All (λ point. point.cost ≤ x) a.now →
+            All (λ point. point.cost ≤ y) b.now →
+            IfOk result (λ front. All (λ point. point.cost ≤ x + y) front) }
     {
         let points = sums(alloc, a.points(), b.points())?;
         Ok(Front {

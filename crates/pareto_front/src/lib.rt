@@ -5,6 +5,7 @@
 #![tactic(auto)]
 
 mod front;
+pub mod laws;
 mod merge;
 mod point;
 mod reading;

@@ -3,6 +3,7 @@ use Rattle.std.proofs.lemmas.List.Elements.{All-take, All-same}
 use Rattle.pareto_front.specs.declared.point.Point.{Point}
 use Rattle.pareto_front.specs.Front.{IsFront, cheapest, moved_by}
 use Rattle.pareto_front.proofs.Shifts.{IsFront-moved, cheapest-moved_part, moved_within}
+use Rattle.pareto_front.proofs.Bounds.{shifted_costs}
 use Rattle.pareto_front.proofs.front.Front.shift.Goals as goal
 
 points_are : (c : goal.After-from_vec) → c.from_vec.result ≡ map (moved_by c.args.loss c.args.price) c.points_within.result.now
@@ -28,3 +29,7 @@ pub returns-clause-capped : goal.returns-clause-capped
 returns-clause-capped c =
     let known = c.in-Some.ensures in
     All-same (λ p. p.need ≤ c.args.cap) _ _ (points_are c) (moved_within c.args.loss c.args.price c.points_within.result.now c.args.cap c.in-Some.room known.0 known.1 c.points_within.ensures.within)
+
+pub returns-clause-bounded : goal.returns-clause-bounded
+returns-clause-bounded c =
+    shifted_costs c.args.self.now c.from_vec.result c.args.loss c.args.price c.args.cap (invariant_of-result c) (returns-clause-capped c) (returns-clause-value c)

@@ -1,0 +1,50 @@
+//! What a front's prices tell of its points, and its points of its prices. Each call only states a fact.
+ghost use Rattle.std.specs.Prelude.{◌≡◌, ℕ, ◌+◌, ◌<◌, ◌≤◌, ◌^◌, All, IsSomeAnd, Some};
+ghost use Rattle.std.specs.Option.{ForSome};
+ghost use Rattle.pareto_front.specs.Front.{cheapest, sum_of_both};
+
+use crate::front::Front;
+
+/// Two fronts with the same cheapest at every budget have the same points.
+pub fn front_is_its_prices(a: &Front, b: &Front)
+    requires { (budget : ℕ) → cheapest a.now budget ≡ cheapest b.now budget }
+    ensures { a.now ≡ b.now }
+{
+    let _ = a.points();
+    let _ = b.points();
+}
+
+/// Two fronts without a need above `cap`, dPa, that have the same cheapest up to it, have the same points.
+pub fn capped_front_is_its_prices(a: &Front, b: &Front, cap: u64)
+    requires a_capped { All (λ point. point.need ≤ cap) a.now }
+    requires b_capped { All (λ point. point.need ≤ cap) b.now }
+    requires same { (budget : ℕ) → budget ≤ cap → cheapest a.now budget ≡ cheapest b.now budget }
+    ensures { a.now ≡ b.now }
+{
+    let _ = a.points();
+    let _ = b.points();
+}
+
+/// A greater budget costs no more.
+pub fn cheapest_never_rises(front: &Front)
+    ensures { (less more : ℕ) → less ≤ more → ForSome (cheapest front.now less)
+        (λ cost. IsSomeAnd (cheapest front.now more) (λ lower. lower ≤ cost)) }
+{
+    let _ = front.points();
+}
+
+/// Each point is what its own need buys.
+pub fn points_are_prices(front: &Front)
+    ensures { All (λ point. cheapest front.now point.need ≡ Some point.cost) front.now }
+{
+    let _ = front.points();
+}
+
+/// Two fronts whose costs are within bounds that add up within 64 bits may be added.
+pub fn sums_fit(a: &Front, b: &Front, x: u64, y: u64)
+    requires a_bounded { All (λ point. point.cost ≤ x) a.now }
+    requires b_bounded { All (λ point. point.cost ≤ y) b.now }
+    requires bounds { x + y < 2 ^ 64 }
+    ensures { (budget : ℕ) → ForSome
+        (sum_of_both (cheapest a.now budget) (cheapest b.now budget)) (λ cost. cost < 2 ^ 64) }
+{}
