@@ -6,11 +6,11 @@ use Rattle.std.proofs.lemmas.Bool.{cases_lt}
 use Rattle.std.proofs.lemmas.List.Elements.{All-weaker, All-contains, Contains-append_left, Contains-append_right}
 use Rattle.std.proofs.lemmas.Option.{none-some}
 use Rattle.pareto_front.specs.declared.point.Point.{Point}
-use Rattle.pareto_front.specs.Front.{IsFront, cheapest, lesser, shifted, sum_of_both}
+use Rattle.pareto_front.specs.Front.{IsFront, cheapest, lesser, shifted, sum_of_both, price_of}
 use Rattle.pareto_front.proofs.Costs.{lesser_at_most_left, lesser_at_most_right}
 use Rattle.pareto_front.proofs.Even.{lesser-Some}
-use Rattle.pareto_front.proofs.Prices.{at_point, cheapest-past}
-use Rattle.pareto_front.proofs.Falls.{cheapest-All, option_or-Some, at_point-Some}
+use Rattle.pareto_front.proofs.Prices.{cheapest-past}
+use Rattle.pareto_front.proofs.Falls.{cheapest-All, option_or-Some, price_of-Some}
 use Rattle.pareto_front.proofs.Points.{cheapest-need, cheapest-before}
 use Rattle.pareto_front.proofs.Same.{same_point}
 
@@ -80,9 +80,9 @@ record IsPriceOf (ps : List Point) (budget cost : ℕ) : Type 0 where
 
 price_point : (ps : List Point) (budget cost : ℕ) → cheapest ps budget ≡ Some cost → IsPriceOf ps budget cost
 price_point [] budget cost is = absurd (none-some cost is)
-price_point (p ∷ ps) budget cost is = elim (option_or-Some (cheapest ps budget) (at_point p budget) cost is) [
+price_point (p ∷ ps) budget cost is = elim (option_or-Some (cheapest ps budget) (price_of p budget) cost is) [
   | inl later ↦ (let q = price_point ps budget cost later in let (k, within, at) = q.there in record { point = q.point; there = (suc k, omega arith, at); within = q.within; is = q.is })
-  | inr first ↦ (let here = at_point-Some p budget cost first in record { point = p; there = (zero, omega arith, refl); within = here.0; is = here.1 })
+  | inr first ↦ (let here = price_of-Some p budget cost first in record { point = p; there = (zero, omega arith, refl); within = here.0; is = here.1 })
 ]
 
 -- a point whose cost no earlier budget has is a point of the front that has its price

@@ -2,11 +2,7 @@
 use Rattle.std.proofs.Common.{◌≡◌, ℕ, ◌+◌, ◌<◌, ◌≤◌, Option, Some, None, refl, arith, inl, inr, ◌⊎◌, min}
 use Rattle.std.specs.Prelude.{IsSomeAnd}
 use Rattle.std.specs.Option.{ForSome}
-use Rattle.pareto_front.specs.Front.{lesser, sum_of_both}
-
--- the new cost is at most the old one, or there was none
-abbrev pub NoDearer : Option ℕ → Option ℕ → Type 0
-NoDearer new old = ForSome old (λ x. IsSomeAnd new (λ y. y ≤ x))
+use Rattle.pareto_front.specs.Front.{NoDearer, lesser, sum_of_both}
 
 -- the new cost is below the old one, or there was none
 abbrev pub Cheaper : Option ℕ → Option ℕ → Type 0

@@ -6,7 +6,7 @@ use Rattle.std.proofs.lemmas.Bool.{cases_lt}
 use Rattle.std.proofs.lemmas.List.Elements.{All-nil, All-cons, All-head, All-weaker}
 use Rattle.pareto_front.specs.declared.point.Point.{Point}
 use Rattle.pareto_front.specs.Front.{IsFront, lesser}
-use Rattle.pareto_front.specs.Sweep.{Progress, IsEven, IsReadTo, next_need}
+use Rattle.pareto_front.specs.Sweep.{IsReached, Progress, IsEven, IsReadTo, next_need}
 use Rattle.pareto_front.proofs.Falls.{Follows, IsFront-first}
 
 -- the lesser of two is above neither, and is one of them
@@ -52,7 +52,7 @@ next_need-from ps from i before m is = go ps i before.rest is where
 pub record Reaches (at : Progress) (need : ℕ) : Type 0 where
   pub left : IsReadTo need at.left at.left_read
   pub right : IsReadTo need at.right at.right_read
-  pub one : (next_need at.left at.left_read ≡ Some need) ⊎ (next_need at.right at.right_read ≡ Some need)
+  pub one : IsReached need at
 
 pub IsEven-reaches : (at : Progress) (need : ℕ) → IsEven at → lesser (next_need at.left at.left_read) (next_need at.right at.right_read) ≡ Some need → Reaches at need
 IsEven-reaches at need even is =

@@ -7,9 +7,9 @@ use Rattle.std.proofs.lemmas.List.Elements.{All-head, All-tail, All-cons, All-ni
 use Rattle.std.proofs.lemmas.Bool.Decides.{nat_tests}
 use Rattle.std.proofs.lemmas.Bool.{cases_lt, false≢true}
 use Rattle.pareto_front.specs.declared.point.Point.{Point}
-use Rattle.pareto_front.specs.Front.{IsFront, IsBelowFirst, cheapest}
+use Rattle.pareto_front.specs.Front.{IsFront, IsBelowFirst, cheapest, price_of}
 use Rattle.pareto_front.specs.Sweep.{next_need, IsReadTo}
-use Rattle.pareto_front.proofs.Prices.{at_point, at_point-within, cheapest-above, cheapest-append, cheapest-past}
+use Rattle.pareto_front.proofs.Prices.{price_of-within, cheapest-above, cheapest-append, cheapest-past}
 
 -- q needs more and costs less than p
 abbrev pub Follows : Point → Point → Type 0
@@ -35,15 +35,15 @@ pub option_or-Some : (o p : Option ℕ) (x : ℕ) → option_or o p ≡ Some x �
 option_or-Some None p x is = inr is
 option_or-Some (Some y) p x is = inl is
 
-pub at_point-Some : (p : Point) (b x : ℕ) → at_point p b ≡ Some x → (p.need ≤ b) × (p.cost ≡ x)
-at_point-Some p b x is = grind (arith, nat_tests)
+pub price_of-Some : (p : Point) (b x : ℕ) → price_of p b ≡ Some x → (p.need ≤ b) × (p.cost ≡ x)
+price_of-Some p b x is = grind (arith, nat_tests)
 
 -- a price is the cost of a point
 pub cheapest-All : (P : ℕ → Type 0) (ps : List Point) (b : ℕ) → All (λ p. P p.cost) ps → ForSome (cheapest ps b) P
 cheapest-All P [] b all x is = absurd (cc)
-cheapest-All P (p ∷ ps) b all x is = elim (option_or-Some (cheapest ps b) (at_point p b) x is) [
+cheapest-All P (p ∷ ps) b all x is = elim (option_or-Some (cheapest ps b) (price_of p b) x is) [
   | inl later ↦ cheapest-All P ps b (All-tail (λ q. P q.cost) p ps all) x later
-  | inr here ↦ subst P (at_point-Some p b x here).1 (All-head (λ q. P q.cost) p ps all)
+  | inr here ↦ subst P (price_of-Some p b x here).1 (All-head (λ q. P q.cost) p ps all)
 ]
 
 -- a later part of a front costs less than an earlier one
@@ -58,8 +58,8 @@ cheapest-parts ps qs b x y front early late =
 -- a list whose first point is within the budget has a price
 pub cheapest-first : (p : Point) (ps : List Point) (b : ℕ) → p.need ≤ b → (y : ℕ) × (cheapest (p ∷ ps) b ≡ Some y)
 cheapest-first p ps b within = go (cheapest ps b) where
-  go : (o : Option ℕ) → (y : ℕ) × (option_or o (at_point p b) ≡ Some y)
-  go None = (p.cost, at_point-within p b within)
+  go : (o : Option ℕ) → (y : ℕ) × (option_or o (price_of p b) ≡ Some y)
+  go None = (p.cost, price_of-within p b within)
   go (Some y) = (y, refl)
 
 -- every need of a front is above a budget that is below its first need
@@ -119,6 +119,6 @@ pub IsFront-push : (ps : List Point) (q : Point) → IsFront ps → All (λ p. p
 IsFront-push [] q front needs costs = (tt, tt)
 IsFront-push (p ∷ []) q front needs costs =
     let here = All-head (λ p. p.need < q.need) p [] needs in
-    ((here, costs p.cost (at_point-within p q.need (omega arith))), (tt, tt))
+    ((here, costs p.cost (price_of-within p q.need (omega arith))), (tt, tt))
 IsFront-push (p ∷ p' ∷ ps) q front needs costs =
-    (front.0, IsFront-push (p' ∷ ps) q front.1 (All-tail (λ r. r.need < q.need) p (p' ∷ ps) needs) (λ x is. costs x (ap (λ o. option_or o (at_point p q.need)) is)))
+    (front.0, IsFront-push (p' ∷ ps) q front.1 (All-tail (λ r. r.need < q.need) p (p' ∷ ps) needs) (λ x is. costs x (ap (λ o. option_or o (price_of p q.need)) is)))

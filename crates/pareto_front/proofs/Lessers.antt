@@ -1,13 +1,12 @@
 -- A sweep that keeps the cheaper of two fronts.
 use Rattle.std.proofs.Common.{◌≡◌, ℕ, ◌<◌, ◌≤◌, List, [], ◌∷◌, ◌++◌, take, Option, Some, None, refl, sym, ap, ◌∙◌, subst, arith}
-use Rattle.std.specs.Prelude.{IsSomeAnd}
 use Rattle.std.specs.Option.{ForSome}
 use Rattle.std.proofs.lemmas.List.Elements.{All-weaker}
 use Rattle.pareto_front.specs.declared.point.Point.{Point}
 use Rattle.pareto_front.specs.declared.sweep.Step.{Step}
-use Rattle.pareto_front.specs.Front.{cheapest, lesser}
-use Rattle.pareto_front.specs.Sweep.{Progress, Steps, cost_of, last_cost}
-use Rattle.pareto_front.proofs.Costs.{NoDearer, lesser_falls}
+use Rattle.pareto_front.specs.Front.{cheapest, lesser, NoDearer}
+use Rattle.pareto_front.specs.Sweep.{Progress, Steps, cost_of, last_cost, lesser_offer}
+use Rattle.pareto_front.proofs.Costs.{lesser_falls}
 use Rattle.pareto_front.proofs.Prices.{cheapest-last}
 use Rattle.pareto_front.proofs.Swept.{Swept, Swept-push, Swept-skip, left_falls, right_falls}
 
@@ -16,11 +15,11 @@ module _ {a b : List Point} {old new : Progress} {done : List Point} {next : Ste
   last_is : (budget : ℕ) → next.need ≤ budget → cheapest done budget ≡ last_cost done
   last_is budget over = cheapest-last done budget (All-weaker (λ p. p.need < next.need) (λ p. p.need ≤ budget) (λ p h. omega arith) done (swept.needs next.need on.reached))
 
-  pub Swept-lesser : (point : Point) → point.need ≡ next.need → lesser (cost_of next.left) (cost_of next.right) ≡ Some point.cost → ForSome (last_cost done) (λ last. point.cost < last) → Swept lesser a b new (done ++ point ∷ [])
+  pub Swept-lesser : (point : Point) → point.need ≡ next.need → lesser_offer next ≡ Some point.cost → ForSome (last_cost done) (λ last. point.cost < last) → Swept lesser a b new (done ++ point ∷ [])
   Swept-lesser point here is less = Swept-push swept on point here is (λ cost was. less cost (sym (last_is next.need (omega arith)) ∙ was))
 
   -- what is there already can't be below what is offered, so the two are equal
-  stays : (offer last : Option ℕ) → NoDearer offer last → ForSome offer (λ cost. IsSomeAnd last (λ c. c ≤ cost)) → last ≡ offer
+  stays : (offer last : Option ℕ) → NoDearer offer last → NoDearer last offer → last ≡ offer
   stays None None falls covers = refl
   stays None (Some c) falls covers = absurd (falls c refl)
   stays (Some cost) None falls covers = absurd (covers cost refl)
@@ -30,11 +29,11 @@ module _ {a b : List Point} {old new : Progress} {done : List Point} {next : Ste
       let same : c ≡ cost = omega arith in
       ap Some same
 
-  pub Swept-no_lesser : ForSome (lesser (cost_of next.left) (cost_of next.right)) (λ cost. IsSomeAnd (last_cost done) (λ last. last ≤ cost)) → Swept lesser a b new done
+  pub Swept-no_lesser : NoDearer (last_cost done) (lesser_offer next) → Swept lesser a b new done
   Swept-no_lesser covers = Swept-skip swept on (λ budget over.
       last_is budget over
-      ∙ stays (lesser (cost_of next.left) (cost_of next.right)) (last_cost done)
-      (subst (NoDearer (lesser (cost_of next.left) (cost_of next.right))) (sym (swept.prices budget) ∙ last_is budget over)
+      ∙ stays (lesser_offer next) (last_cost done)
+      (subst (NoDearer (lesser_offer next)) (sym (swept.prices budget) ∙ last_is budget over)
       (lesser_falls (cost_of next.left) (cost_of next.right) (cheapest (take old.left_read old.left) budget) (cheapest (take old.right_read old.right) budget)
       (left_falls swept on budget over) (right_falls swept on budget over)))
       covers)

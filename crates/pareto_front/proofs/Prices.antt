@@ -1,22 +1,18 @@
 -- The cheapest of a list of points at a budget: joined lists, parts, and budgets past every need.
-use Rattle.std.proofs.Common.{◌≡◌, ℕ, suc, ◌-◌, ◌<◌, ◌≤◌, List, [], ◌∷◌, ◌++◌, take, drop, length, Option, Some, None, refl, ap, sym, ◌∙◌, arith, nat_le}
-use Rattle.std.specs.Prelude.{if◌then◌else◌, All, slice_get}
+use Rattle.std.proofs.Common.{◌≡◌, ℕ, suc, ◌-◌, ◌<◌, ◌≤◌, List, [], ◌∷◌, ◌++◌, take, drop, length, Option, Some, None, refl, ap, sym, ◌∙◌, arith}
+use Rattle.std.specs.Prelude.{All, slice_get}
 use Rattle.std.specs.Option.{option_or, option_map}
 use Rattle.std.proofs.lemmas.List.{take-append-drop}
 use Rattle.std.proofs.lemmas.List.Elements.{All-head, All-tail}
 use Rattle.std.proofs.lemmas.Bool.Decides.{nat_tests}
 use Rattle.pareto_front.specs.declared.point.Point.{Point}
-use Rattle.pareto_front.specs.Front.{cheapest}
+use Rattle.pareto_front.specs.Front.{cheapest, price_of}
 
--- what one point gives at a budget
-abbrev pub at_point : Point → ℕ → Option ℕ
-at_point point budget = if nat_le point.need budget then Some point.cost else None
+pub price_of-within : (p : Point) (b : ℕ) → p.need ≤ b → price_of p b ≡ Some p.cost
+price_of-within p b within = grind (arith, nat_tests)
 
-pub at_point-within : (p : Point) (b : ℕ) → p.need ≤ b → at_point p b ≡ Some p.cost
-at_point-within p b within = grind (arith, nat_tests)
-
-pub at_point-above : (p : Point) (b : ℕ) → b < p.need → at_point p b ≡ None
-at_point-above p b above = grind (arith, nat_tests)
+pub price_of-above : (p : Point) (b : ℕ) → b < p.need → price_of p b ≡ None
+price_of-above p b above = grind (arith, nat_tests)
 
 option_or-none : (x : Option ℕ) → option_or x None ≡ x
 option_or-none None = refl
@@ -30,22 +26,22 @@ option_or-assoc (Some c) y z = refl
 pub cheapest-append : (ps qs : List Point) (b : ℕ) → cheapest (ps ++ qs) b ≡ option_or (cheapest qs b) (cheapest ps b)
 cheapest-append [] qs b = sym (option_or-none (cheapest qs b))
 cheapest-append (p ∷ ps) qs b =
-    ap (λ o. option_or o (at_point p b)) (cheapest-append ps qs b)
-    ∙ option_or-assoc (cheapest qs b) (cheapest ps b) (at_point p b)
+    ap (λ o. option_or o (price_of p b)) (cheapest-append ps qs b)
+    ∙ option_or-assoc (cheapest qs b) (cheapest ps b) (price_of p b)
 
 -- a list whose every need is above the budget has no price
 pub cheapest-above : (ps : List Point) (b : ℕ) → All (λ p. b < p.need) ps → cheapest ps b ≡ None
 cheapest-above [] b above = refl
 cheapest-above (p ∷ ps) b above =
-    ap (λ o. option_or o (at_point p b)) (cheapest-above ps b (All-tail (λ q. b < q.need) p ps above))
-    ∙ at_point-above p b (All-head (λ q. b < q.need) p ps above)
+    ap (λ o. option_or o (price_of p b)) (cheapest-above ps b (All-tail (λ q. b < q.need) p ps above))
+    ∙ price_of-above p b (All-head (λ q. b < q.need) p ps above)
 
 -- past every need the budget does not matter
 pub cheapest-past : (ps : List Point) (b c : ℕ) → All (λ p. p.need ≤ b) ps → All (λ p. p.need ≤ c) ps → cheapest ps b ≡ cheapest ps c
 cheapest-past [] b c within_b within_c = refl
 cheapest-past (p ∷ ps) b c within_b within_c =
-    ap (λ o. option_or o (at_point p b)) (cheapest-past ps b c (All-tail (λ q. q.need ≤ b) p ps within_b) (All-tail (λ q. q.need ≤ c) p ps within_c))
-    ∙ ap (option_or (cheapest ps c)) (at_point-within p b (All-head (λ q. q.need ≤ b) p ps within_b) ∙ sym (at_point-within p c (All-head (λ q. q.need ≤ c) p ps within_c)))
+    ap (λ o. option_or o (price_of p b)) (cheapest-past ps b c (All-tail (λ q. q.need ≤ b) p ps within_b) (All-tail (λ q. q.need ≤ c) p ps within_c))
+    ∙ ap (option_or (cheapest ps c)) (price_of-within p b (All-head (λ q. q.need ≤ b) p ps within_b) ∙ sym (price_of-within p c (All-head (λ q. q.need ≤ c) p ps within_c)))
 
 -- what lies above the budget may be cut off
 pub cheapest-take : (ps : List Point) (i b : ℕ) → All (λ p. b < p.need) (drop i ps) → cheapest (take i ps) b ≡ cheapest ps b
@@ -65,17 +61,17 @@ option_or-Some (Some y) p x is = refl
 -- a list whose every need is within the budget has a price, unless it is empty
 cheapest-some : (p : Point) (ps : List Point) (b : ℕ) → All (λ q. q.need ≤ b) (p ∷ ps) → (x : ℕ) × (cheapest (p ∷ ps) b ≡ Some x)
 cheapest-some p ps b within = go (cheapest ps b) where
-  go : (o : Option ℕ) → (x : ℕ) × (option_or o (at_point p b) ≡ Some x)
-  go None = (p.cost, at_point-within p b (All-head (λ q. q.need ≤ b) p ps within))
+  go : (o : Option ℕ) → (x : ℕ) × (option_or o (price_of p b) ≡ Some x)
+  go None = (p.cost, price_of-within p b (All-head (λ q. q.need ≤ b) p ps within))
   go (Some x) = (x, refl)
 
 -- where every need is within the budget, the last point has the price
 pub cheapest-last : (ps : List Point) (b : ℕ) → All (λ p. p.need ≤ b) ps → cheapest ps b ≡ option_map (λ p. p.cost) (slice_get ps (length ps - 1))
 cheapest-last [] b within = refl
-cheapest-last (p ∷ []) b within = at_point-within p b (All-head (λ q. q.need ≤ b) p [] within)
+cheapest-last (p ∷ []) b within = price_of-within p b (All-head (λ q. q.need ≤ b) p [] within)
 cheapest-last (p ∷ q ∷ ps) b within =
     let rest = All-tail (λ r. r.need ≤ b) p (q ∷ ps) within in
     let (x, is) = cheapest-some q ps b rest in
-    option_or-Some (cheapest (q ∷ ps) b) (at_point p b) x is
+    option_or-Some (cheapest (q ∷ ps) b) (price_of p b) x is
     ∙ cheapest-last (q ∷ ps) b rest
     ∙ ap (option_map (λ r. r.cost)) (sym (last-cons p q ps))

@@ -6,9 +6,9 @@ use Rattle.std.proofs.lemmas.Bool.{cases_lt}
 use Rattle.std.proofs.lemmas.List.Elements.{All-nil, All-cons, All-head, All-tail, All-weaker}
 use Rattle.std.proofs.lemmas.Option.{same_Some, none-some}
 use Rattle.pareto_front.specs.declared.point.Point.{Point}
-use Rattle.pareto_front.specs.Front.{IsFront, cheapest}
-use Rattle.pareto_front.proofs.Prices.{at_point, cheapest-above}
-use Rattle.pareto_front.proofs.Falls.{Follows, IsFront-first, IsFront-above, cheapest-All, cheapest-first, at_point-Some}
+use Rattle.pareto_front.specs.Front.{IsFront, cheapest, price_of}
+use Rattle.pareto_front.proofs.Prices.{cheapest-above}
+use Rattle.pareto_front.proofs.Falls.{Follows, IsFront-first, IsFront-above, cheapest-All, cheapest-first, price_of-Some}
 use Rattle.pareto_front.proofs.Points.{cheapest-need}
 
 point_of : ℕ → ℕ → Point
@@ -35,11 +35,11 @@ later_same p ps qs b ps_front qs_front same = go (cheapest ps b) (cheapest qs b)
   less : (ls : List Point) (x : ℕ) → IsFront (p ∷ ls) → cheapest ls b ≡ Some x → x < p.cost
   less ls x front is = cheapest-All (λ z. z < p.cost) ls b (All-weaker (Follows p) (λ q. q.cost < p.cost) (λ q h. h.1) ls (IsFront-first p ls front)) x is
 
-  go : (x y : Option ℕ) → cheapest ps b ≡ x → cheapest qs b ≡ y → option_or x (at_point p b) ≡ option_or y (at_point p b) → x ≡ y
+  go : (x y : Option ℕ) → cheapest ps b ≡ x → cheapest qs b ≡ y → option_or x (price_of p b) ≡ option_or y (price_of p b) → x ≡ y
   go None None x_is y_is same = refl
   go (Some x) (Some y) x_is y_is same = same
-  go (Some x) None x_is y_is same = let below = less ps x ps_front x_is in let cost = (at_point-Some p b x (sym same)).1 in absurd (omega arith)
-  go None (Some y) x_is y_is same = let below = less qs y qs_front y_is in let cost = (at_point-Some p b y same).1 in absurd (omega arith)
+  go (Some x) None x_is y_is same = let below = less ps x ps_front x_is in let cost = (price_of-Some p b x (sym same)).1 in absurd (omega arith)
+  go None (Some y) x_is y_is same = let below = less qs y qs_front y_is in let cost = (price_of-Some p b y same).1 in absurd (omega arith)
 
 -- two fronts without a need above the cap that have the same prices up to it are one
 pub same_up_to : (ps qs : List Point) (cap : ℕ) → IsFront ps → IsFront qs → All (λ p. p.need ≤ cap) ps → All (λ p. p.need ≤ cap) qs → ((b : ℕ) → b ≤ cap → cheapest ps b ≡ cheapest qs b) → ps ≡ qs

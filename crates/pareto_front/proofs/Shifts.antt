@@ -5,8 +5,8 @@ use Rattle.std.specs.Option.{option_or, option_map}
 use Rattle.std.proofs.lemmas.Bool.Decides.{leb_tells}
 use Rattle.std.proofs.lemmas.List.Elements.{All-map, All-weaker}
 use Rattle.pareto_front.specs.declared.point.Point.{Point}
-use Rattle.pareto_front.specs.Front.{IsBefore, IsFront, cheapest, moved_by, shifted}
-use Rattle.pareto_front.proofs.Prices.{at_point, at_point-within, at_point-above}
+use Rattle.pareto_front.specs.Front.{IsBefore, IsFront, cheapest, moved_by, plus, shifted, price_of}
+use Rattle.pareto_front.proofs.Prices.{price_of-within, price_of-above}
 
 option_map-or : (f : ℕ → ℕ) (x y : Option ℕ) → option_map f (option_or x y) ≡ option_or (option_map f x) (option_map f y)
 option_map-or f None y = refl
@@ -22,37 +22,37 @@ module _ (loss price : ℕ) where
   IsFront-moved [] front = tt
   IsFront-moved (p ∷ ps) front = (IsBefore-moved p ps front.0, IsFront-moved ps front.1)
 
-  at_point-moved : (p : Point) (b : ℕ) → loss ≤ b → at_point (moved_by loss price p) b ≡ option_map (λ c. c + price) (at_point p (b - loss))
-  at_point-moved p b enough = elim (leb_tells p.need (b - loss)) [
-    | inl within ↦ (let w = within.1 in at_point-within (moved_by loss price p) b (omega arith) ∙ ap (option_map (λ c. c + price)) (sym (at_point-within p (b - loss) w)))
-    | inr above ↦ (let a = above.1 in at_point-above (moved_by loss price p) b (omega arith) ∙ ap (option_map (λ c. c + price)) (sym (at_point-above p (b - loss) a)))
+  price_of-moved : (p : Point) (b : ℕ) → loss ≤ b → price_of (moved_by loss price p) b ≡ plus price (price_of p (b - loss))
+  price_of-moved p b enough = elim (leb_tells p.need (b - loss)) [
+    | inl within ↦ (let w = within.1 in price_of-within (moved_by loss price p) b (omega arith) ∙ ap (plus price) (sym (price_of-within p (b - loss) w)))
+    | inr above ↦ (let a = above.1 in price_of-above (moved_by loss price p) b (omega arith) ∙ ap (plus price) (sym (price_of-above p (b - loss) a)))
   ]
 
-  cheapest-moved_from : (ps : List Point) (b : ℕ) → loss ≤ b → cheapest (map (moved_by loss price) ps) b ≡ option_map (λ c. c + price) (cheapest ps (b - loss))
+  cheapest-moved_from : (ps : List Point) (b : ℕ) → loss ≤ b → cheapest (map (moved_by loss price) ps) b ≡ plus price (cheapest ps (b - loss))
   cheapest-moved_from [] b enough = refl
   cheapest-moved_from (p ∷ ps) b enough =
-      ap (λ o. option_or o (at_point (moved_by loss price p) b)) (cheapest-moved_from ps b enough)
-      ∙ ap (option_or (option_map (λ c. c + price) (cheapest ps (b - loss)))) (at_point-moved p b enough)
-      ∙ sym (option_map-or (λ c. c + price) (cheapest ps (b - loss)) (at_point p (b - loss)))
+      ap (λ o. option_or o (price_of (moved_by loss price p) b)) (cheapest-moved_from ps b enough)
+      ∙ ap (option_or (plus price (cheapest ps (b - loss)))) (price_of-moved p b enough)
+      ∙ sym (option_map-or (λ c. c + price) (cheapest ps (b - loss)) (price_of p (b - loss)))
 
   cheapest-moved_below : (ps : List Point) (b : ℕ) → b < loss → cheapest (map (moved_by loss price) ps) b ≡ None
   cheapest-moved_below [] b below = refl
   cheapest-moved_below (p ∷ ps) b below =
-      ap (λ o. option_or o (at_point (moved_by loss price p) b)) (cheapest-moved_below ps b below)
-      ∙ at_point-above (moved_by loss price p) b (omega arith)
+      ap (λ o. option_or o (price_of (moved_by loss price p) b)) (cheapest-moved_below ps b below)
+      ∙ price_of-above (moved_by loss price p) b (omega arith)
 
   -- its cheapest is the shifted one
   pub cheapest-moved : (ps : List Point) (b : ℕ) → cheapest (map (moved_by loss price) ps) b ≡ shifted ps loss price b
   cheapest-moved ps b = elim (leb_tells loss b) [
-    | inl enough ↦ cheapest-moved_from ps b enough.1 ∙ sym (ap (λ v. if v then option_map (λ c. c + price) (cheapest ps (b - loss)) else None) enough.0)
-    | inr below ↦ cheapest-moved_below ps b below.1 ∙ sym (ap (λ v. if v then option_map (λ c. c + price) (cheapest ps (b - loss)) else None) below.0)
+    | inl enough ↦ cheapest-moved_from ps b enough.1 ∙ sym (ap (λ v. if v then plus price (cheapest ps (b - loss)) else None) enough.0)
+    | inr below ↦ cheapest-moved_below ps b below.1 ∙ sym (ap (λ v. if v then plus price (cheapest ps (b - loss)) else None) below.0)
   ]
 
   -- where a part of a front has its prices up to the room, the moved part has the shifted ones up to the cap
   pub cheapest-moved_part : (ps part : List Point) (cap room : ℕ) → loss ≤ cap → room ≡ cap - loss → ((b : ℕ) → b ≤ room → cheapest part b ≡ cheapest ps b)
       → (b : ℕ) → b ≤ cap → cheapest (map (moved_by loss price) part) b ≡ shifted ps loss price b
   cheapest-moved_part ps part cap room enough is prices b within =
-      cheapest-moved part b ∙ ap (λ o. if nat_le loss b then option_map (λ c. c + price) o else None) (prices (b - loss) (omega arith))
+      cheapest-moved part b ∙ ap (λ o. if nat_le loss b then plus price o else None) (prices (b - loss) (omega arith))
 
   -- and no need above the cap
   pub moved_within : (part : List Point) (cap room : ℕ) → loss ≤ cap → room ≡ cap - loss → All (λ p. p.need ≤ room) part → All (λ p. p.need ≤ cap) (map (moved_by loss price) part)

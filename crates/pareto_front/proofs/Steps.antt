@@ -6,7 +6,7 @@ use Rattle.std.proofs.lemmas.Bool.Decides.{leb_tells}
 use Rattle.pareto_front.specs.declared.point.Point.{Point}
 use Rattle.pareto_front.specs.Front.{cheapest}
 use Rattle.pareto_front.specs.Sweep.{IsReadTo}
-use Rattle.pareto_front.proofs.Prices.{at_point-within, at_point-above, cheapest-append, cheapest-past, cheapest-take}
+use Rattle.pareto_front.proofs.Prices.{price_of-within, price_of-above, cheapest-append, cheapest-past, cheapest-take}
 
 -- the new points have the prices of the old below the need, and this price from there on
 pub record Extends (need : ℕ) (price : Option ℕ) (old new : List Point) : Type 0 where
@@ -16,8 +16,8 @@ pub record Extends (need : ℕ) (price : Option ℕ) (old new : List Point) : Ty
 -- a point at the end
 pub Extends-push : (ps : List Point) (q : Point) → Extends q.need (Some q.cost) ps (ps ++ q ∷ [])
 Extends-push ps q = record {
-  below = λ b under. cheapest-append ps (q ∷ []) b ∙ ap (λ o. option_or o (cheapest ps b)) (at_point-above q b under);
-  from = λ b over. cheapest-append ps (q ∷ []) b ∙ ap (λ o. option_or o (cheapest ps b)) (at_point-within q b over);
+  below = λ b under. cheapest-append ps (q ∷ []) b ∙ ap (λ o. option_or o (cheapest ps b)) (price_of-above q b under);
+  from = λ b over. cheapest-append ps (q ∷ []) b ∙ ap (λ o. option_or o (cheapest ps b)) (price_of-within q b over);
 }
 
 -- a front that is read past one more need

@@ -6,19 +6,19 @@ use Rattle.std.proofs.lemmas.List.{take_all}
 use Rattle.std.proofs.lemmas.List.Elements.{All-nil, All-push, All-weaker}
 use Rattle.pareto_front.specs.declared.point.Point.{Point}
 use Rattle.pareto_front.specs.declared.sweep.Step.{Step}
-use Rattle.pareto_front.specs.Front.{IsFront, cheapest}
-use Rattle.pareto_front.specs.Sweep.{Progress, Steps, IsReadTo, cost_of, next_need, points_left}
+use Rattle.pareto_front.specs.Front.{IsFront, cheapest, NoDearer}
+use Rattle.pareto_front.specs.Sweep.{IsReached, Progress, Steps, IsReadTo, cost_of, points_left}
 use Rattle.pareto_front.proofs.Even.{next_need-from}
 use Rattle.pareto_front.proofs.Steps.{Extends, Extends-push, Extends-read, step}
 use Rattle.pareto_front.proofs.Falls.{IsFront-push, cheapest-read, cheapest-read_point}
-use Rattle.pareto_front.proofs.Costs.{NoDearer, Cheaper}
+use Rattle.pareto_front.proofs.Costs.{Cheaper}
 
 -- the points that are done are a front before the next need, and join the prices of what is read
 pub record Swept (join : Option ℕ → Option ℕ → Option ℕ) (a b : List Point) (at : Progress) (done : List Point) : Type 0 where
   pub left_points : at.left ≡ a
   pub right_points : at.right ≡ b
   pub front : IsFront done
-  pub needs : (need : ℕ) → (next_need at.left at.left_read ≡ Some need) ⊎ (next_need at.right at.right_read ≡ Some need) → All (λ p. p.need < need) done
+  pub needs : (need : ℕ) → IsReached need at → All (λ p. p.need < need) done
   pub prices : (budget : ℕ) → cheapest done budget ≡ join (cheapest (take at.left_read at.left) budget) (cheapest (take at.right_read at.right) budget)
 
 -- at the start nothing is read

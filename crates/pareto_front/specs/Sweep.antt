@@ -1,14 +1,18 @@
 -- A sweep over the needs of two fronts, in rising order.
---   next_need points i        the need of the point at i, if there is one
---   IsReadTo need points i    the first i points need less than this, and the others don't
---   Progress                  the points of both fronts, and how many of each are read
---   IsEven progress           both are fronts, and both are read up to one need
---   Steps old new step        the sweep goes on to the next need of the two, and past it
-use Rattle.std.specs.Prelude.{◌≡◌, ℕ, ◌+◌, ◌-◌, ◌<◌, ◌≤◌, ◌⊎◌, List, Option, Some, length, slice_get, take, drop, All}
+--   next_need points i         the need of the point at i, if there is one
+--   last_cost points           the cost of the last point, if there is one
+--   IsReadTo need points i     the first i points need less than this, and the others don't
+--   Progress                   the points of both fronts, and how many of each are read
+--   points_left progress       how many points of both are left to read
+--   IsEven progress            both are fronts, and both are read up to one need
+--   Steps old new step         the sweep goes to the next need of the two, with what both offer there
+--   lesser_offer, sum_offer    the lesser of the costs that a step offers, and their sum
+use Rattle.std.specs.Prelude.{◌≡◌, ℕ, ◌+◌, ◌-◌, ◌<◌, ◌≤◌, ◌⊎◌, List, Option, Some}
+use Rattle.std.specs.Prelude.{length, slice_get, take, drop, All}
 use Rattle.std.specs.Option.{option_map}
 use Rattle.pareto_front.specs.declared.point.Point.{Point}
 use Rattle.pareto_front.specs.declared.sweep.Step.{Step}
-use Rattle.pareto_front.specs.Front.{IsFront, cheapest}
+use Rattle.pareto_front.specs.Front.{IsFront, cheapest, lesser, sum_of_both}
 
 pub record Progress : Type 0 where
   pub left : List Point
@@ -16,19 +20,27 @@ pub record Progress : Type 0 where
   pub left_read : ℕ
   pub right_read : ℕ
 
--- the cost of a point that a front offers
+-- the cost of a point that is offered
 abbrev pub cost_of : Option Point → Option ℕ
-cost_of point = option_map (λ p. p.cost) point
+cost_of offer = option_map (λ point. point.cost) offer
 
 -- the cost of the last point
 abbrev pub last_cost : List Point → Option ℕ
 last_cost points = cost_of (slice_get points (length points - 1))
 
+-- the lesser of the costs that both fronts offer
+abbrev pub lesser_offer : Step → Option ℕ
+lesser_offer step = lesser (cost_of step.left) (cost_of step.right)
+
+-- the sum of the costs that both fronts offer
+abbrev pub sum_offer : Step → Option ℕ
+sum_offer step = sum_of_both (cost_of step.left) (cost_of step.right)
+
 -- the need of the next point, where i are read
 abbrev pub next_need : List Point → ℕ → Option ℕ
 next_need points i = option_map (λ point. point.need) (slice_get points i)
 
--- how many points are left to read
+-- how many points of both are left to read
 abbrev pub points_left : Progress → ℕ
 points_left at = (length at.left - at.left_read) + (length at.right - at.right_read)
 
@@ -45,13 +57,18 @@ pub record IsEven (at : Progress) : Type 0 where
   pub left : IsReadTo need at.left at.left_read
   pub right : IsReadTo need at.right at.right_read
 
--- the sweep goes from the next need to just past it, with the prices of both fronts there
+-- one of the fronts has its next point at this need
+abbrev pub IsReached : ℕ → Progress → Type 0
+IsReached need at =
+    (next_need at.left at.left_read ≡ Some need) ⊎ (next_need at.right at.right_read ≡ Some need)
+
+-- the sweep goes from the next need to just past it, and offers what both fronts cost there
 pub record Steps (old new : Progress) (step : Step) : Type 0 where
   pub left_front : IsFront old.left
   pub right_front : IsFront old.right
   pub same_left : new.left ≡ old.left
   pub same_right : new.right ≡ old.right
-  pub reached : (next_need old.left old.left_read ≡ Some step.need) ⊎ (next_need old.right old.right_read ≡ Some step.need)
+  pub reached : IsReached step.need old
   pub left_before : IsReadTo step.need old.left old.left_read
   pub right_before : IsReadTo step.need old.right old.right_read
   pub left_after : IsReadTo (step.need + 1) new.left new.left_read

@@ -3,4 +3,9 @@ use Rattle.pareto_front.specs.Sweep.{Progress}
 use Rattle.pareto_front.specs.declared.sweep.Reading.{Reading}
 
 abbrev pub progress_of : Reading → Reading → Progress
-progress_of left right = record { left = left.points.now; right = right.points.now; left_read = left.read; right_read = right.read }
+progress_of left right = record {
+  left = left.points.now;
+  right = right.points.now;
+  left_read = left.read;
+  right_read = right.read;
+}

@@ -1,11 +1,13 @@
 //! A front: what each budget of pressure buys at the least cost.
-ghost use Rattle.std.specs.Prelude.{◌≡◌, ℕ, ◌+◌, ◌<◌, ◌≤◌, ◌^◌, ◌↔◌, [], ◌∷◌, ◌++◌, All, Contains, IfOk, IsNone, map};
+ghost use Rattle.std.specs.Prelude.{◌≡◌, ℕ, ◌+◌, ◌<◌, ◌≤◌, ◌^◌, ◌↔◌, [], ◌∷◌, ◌++◌};
+ghost use Rattle.std.specs.Prelude.{All, Contains, IfOk, IsNone};
 ghost use Rattle.std.specs.Option.{ForSome};
-ghost use Rattle.pareto_front.specs.Front.{IsFront, IsBelowFirst, cheapest, lesser, moved_by, shifted, sum_of_both};
+ghost use Rattle.pareto_front.specs.Front.{IsFront, IsBelowFirst};
+ghost use Rattle.pareto_front.specs.Front.{cheapest, lesser, shifted, sum_of_both};
 
-use crate::merge::{lessers, sums};
+use crate::merge::{both_points, either_points};
+use crate::parts::{last_cost, moved, points_within};
 use crate::point::Point;
-use crate::reading::{last_cost, points_within};
 use duct_units::{List, NoMemory};
 use std::alloc::Global;
 use std::marker::Model;
@@ -30,7 +32,7 @@ impl Model for Front {
 }
 
 impl Front {
-    /// The front of what can't be had at any budget.
+    /// The front of what no budget buys.
     pub fn empty(alloc: Global) -> Front
         ensures { result ≡ [] }
     {
@@ -49,6 +51,7 @@ impl Front {
         })
     }
 
+    /// The front of these points, of which each needs more and costs less than the one before it.
     pub fn from_points(points: List<Point>) -> Front
         requires { IsFront points }
         ensures { result ≡ points }
@@ -56,6 +59,7 @@ impl Front {
         Front { points }
     }
 
+    /// The points in rising need and falling cost.
     pub fn points(&self) -> &[Point]
         ensures value { result.now ≡ self.now }
         ensures front { IsFront self.now }
@@ -63,8 +67,7 @@ impl Front {
         self.points.as_slice()
     }
 
-    /// The cost of the last point whose need is within the budget, in steps that grow with the
-    /// logarithm of the number of points.
+    /// The cost of the last point whose need is within the budget, cents, by a binary search.
     pub fn cheapest(&self, budget: u64) -> Option<u64>
         ensures value { result ≡ cheapest self.now budget }
         ensures none { IsNone result ↔ IsBelowFirst budget self.now }
@@ -72,9 +75,9 @@ impl Front {
         last_cost(points_within(self.points(), budget))
     }
 
-    /// What needs the loss more, dPa, and costs the price more, cents, up to the need `cap`.
+    /// The same with a loss more, dPa, and a price more, cents, up to the need `cap`.
     ///
-    /// The front that is made takes the room of its points.
+    /// Reserves once, exactly the room of the points that it keeps.
     pub fn shift(&self, alloc: Global, loss: u64, price: u64, cap: u64) -> Result<Front, NoMemory>
         requires fits { All (λ point. point.cost + price < 2 ^ 64) self.now }
         ensures value { IfOk result (λ front. (budget : ℕ) → budget ≤ cap →
@@ -94,21 +97,22 @@ impl Front {
 
     /// At each budget the cheaper of the two, or the one that is there.
     ///
-    /// Takes room for the points of both at once, of which those that are never the cheaper stay free.
+    /// Reserves once, the room of the points of both. The room of the points left out stays free.
     pub fn either(alloc: Global, a: &Front, b: &Front) -> Result<Front, NoMemory>
         ensures value { IfOk result (λ front. (budget : ℕ) →
             cheapest front budget ≡ lesser (cheapest a.now budget) (cheapest b.now budget)) }
         ensures among { IfOk result (λ front. All (Contains (a.now ++ b.now)) front) }
     {
-        let points = lessers(alloc, a.points(), b.points())?;
+        let points = either_points(alloc, a.points(), b.points())?;
         Ok(Front {
             points: List::from_vec(points),
         })
     }
 
-    /// At each budget the two together, where both are there. Both share the budget, so needs don't add.
+    /// At each budget both together, where both are there. The two share the budget, so that costs
+    /// add and needs don't.
     ///
-    /// Takes room for the points of both at once, of which those below the need of either stay free.
+    /// Reserves once, the room of the points of both. What isn't filled of it stays free.
     pub fn both(alloc: Global, a: &Front, b: &Front) -> Result<Front, NoMemory>
         requires fits { (budget : ℕ) → ForSome
             (sum_of_both (cheapest a.now budget) (cheapest b.now budget)) (λ cost. cost < 2 ^ 64) }
@@ -121,25 +125,9 @@ impl Front {
             All (λ point. point.cost ≤ y) b.now →
             IfOk result (λ front. All (λ point. point.cost ≤ x + y) front) }
     {
-        let points = sums(alloc, a.points(), b.points())?;
+        let points = both_points(alloc, a.points(), b.points())?;
         Ok(Front {
             points: List::from_vec(points),
         })
     }
-}
-
-/// The points with the loss added to each need, dPa, and the price to each cost, cents.
-fn moved(alloc: Global, points: &[Point], loss: u64, price: u64) -> Result<Vec<Point>, NoMemory>
-    requires needs { All (λ point. point.need + loss < 2 ^ 64) points.now }
-    requires costs { All (λ point. point.cost + price < 2 ^ 64) points.now }
-    ensures { IfOk result (λ v. v.items ≡ map (moved_by loss price) points.now) }
-{
-    let mut all = Vec::with_capacity(alloc, points.len())?;
-    for point in points {
-        all.push(Point {
-            need: point.need + loss,
-            cost: point.cost + price,
-        })?;
-    }
-    Ok(all)
 }

@@ -1,7 +1,9 @@
-//! What a front's prices tell of its points, and its points of its prices. Each call only states a fact.
-ghost use Rattle.std.specs.Prelude.{◌≡◌, ℕ, ◌+◌, ◌<◌, ◌≤◌, ◌^◌, All, IsSomeAnd, Some};
+//! What a front's prices tell of its points, and its points of its prices.
+//!
+//! Each call does nothing. A proof learns its clause where the call stands.
+ghost use Rattle.std.specs.Prelude.{◌≡◌, ℕ, ◌+◌, ◌<◌, ◌≤◌, ◌^◌, All, Some};
 ghost use Rattle.std.specs.Option.{ForSome};
-ghost use Rattle.pareto_front.specs.Front.{cheapest, sum_of_both};
+ghost use Rattle.pareto_front.specs.Front.{NoDearer, cheapest, sum_of_both};
 
 use crate::front::Front;
 
@@ -27,8 +29,8 @@ pub fn capped_front_is_its_prices(a: &Front, b: &Front, cap: u64)
 
 /// A greater budget costs no more.
 pub fn cheapest_never_rises(front: &Front)
-    ensures { (less more : ℕ) → less ≤ more → ForSome (cheapest front.now less)
-        (λ cost. IsSomeAnd (cheapest front.now more) (λ lower. lower ≤ cost)) }
+    ensures { (less more : ℕ) → less ≤ more →
+        NoDearer (cheapest front.now more) (cheapest front.now less) }
 {
     let _ = front.points();
 }

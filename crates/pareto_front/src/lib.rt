@@ -1,14 +1,14 @@
 //! Exact Pareto fronts: what each budget of pressure buys at the least cost.
 //!
-//! Needs, losses and budgets are in dPa, costs and prices in cents. Of a front's points each needs
-//! more and costs less than the one before it.
+//! Needs, losses and budgets are in dPa, costs and prices in cents. Each point of a front needs more
+//! and costs less than the one before it.
 #![tactic(auto)]
 
 mod front;
 pub mod laws;
 mod merge;
+mod parts;
 mod point;
-mod reading;
 mod sweep;
 
 pub use front::Front;

@@ -1,16 +1,17 @@
 //! Two fronts in one, by one sweep over their needs.
-ghost use Rattle.std.specs.Prelude.{◌≡◌, ℕ, ◌<◌, ◌≤◌, ◌^◌, IfOk, IfSome, IfNone, IsSomeAnd, Some};
+ghost use Rattle.std.specs.Prelude.{◌≡◌, ℕ, ◌<◌, ◌≤◌, ◌^◌, IfOk, IfSome, IfNone, Some};
 ghost use Rattle.std.specs.Option.{ForSome};
-ghost use Rattle.pareto_front.specs.Front.{IsFront, cheapest, lesser, sum_of_both};
-ghost use Rattle.pareto_front.specs.Sweep.{cost_of, last_cost};
+ghost use Rattle.pareto_front.specs.Front.{IsFront, NoDearer, cheapest, lesser, sum_of_both};
+ghost use Rattle.pareto_front.specs.Sweep.{cost_of, last_cost, lesser_offer, sum_offer};
 
+use crate::parts::last_cost;
 use crate::point::Point;
 use crate::sweep::{Step, Sweep};
 use duct_units::NoMemory;
 use std::alloc::Global;
 
 /// The points at which the cheaper of two fronts gets cheaper.
-pub(crate) fn lessers(alloc: Global, a: &[Point], b: &[Point]) -> Result<Vec<Point>, NoMemory>
+pub(crate) fn either_points(alloc: Global, a: &[Point], b: &[Point]) -> Result<Vec<Point>, NoMemory>
     requires a_front { IsFront a.now }
     requires b_front { IsFront b.now }
     ensures front { IfOk result (λ v. IsFront v.items) }
@@ -20,7 +21,7 @@ pub(crate) fn lessers(alloc: Global, a: &[Point], b: &[Point]) -> Result<Vec<Poi
     let mut points = Vec::with_capacity(alloc, a.len() + b.len())?;
     let mut sweep = Sweep::start(a, b);
     while let Some(step) = sweep.next() {
-        let Some(point) = cheaper_than(points.as_slice(), step) else {
+        let Some(point) = cheaper_point(points.as_slice(), step) else {
             continue;
         };
         points.push(point)?;
@@ -28,12 +29,12 @@ pub(crate) fn lessers(alloc: Global, a: &[Point], b: &[Point]) -> Result<Vec<Poi
     Ok(points)
 }
 
-/// The points of what two fronts cost together, from the first need on at which both are there.
-pub(crate) fn sums(alloc: Global, a: &[Point], b: &[Point]) -> Result<Vec<Point>, NoMemory>
+/// The points of both fronts together, from the first need on at which both are there.
+pub(crate) fn both_points(alloc: Global, a: &[Point], b: &[Point]) -> Result<Vec<Point>, NoMemory>
     requires a_front { IsFront a.now }
     requires b_front { IsFront b.now }
-    requires fits { (budget : ℕ) →
-        ForSome (sum_of_both (cheapest a.now budget) (cheapest b.now budget)) (λ cost. cost < 2 ^ 64) }
+    requires fits { (budget : ℕ) → ForSome
+        (sum_of_both (cheapest a.now budget) (cheapest b.now budget)) (λ cost. cost < 2 ^ 64) }
     ensures front { IfOk result (λ v. IsFront v.items) }
     ensures prices { IfOk result (λ v. (budget : ℕ) →
         cheapest v.items budget ≡ sum_of_both (cheapest a.now budget) (cheapest b.now budget)) }
@@ -41,7 +42,7 @@ pub(crate) fn sums(alloc: Global, a: &[Point], b: &[Point]) -> Result<Vec<Point>
     let mut points = Vec::with_capacity(alloc, a.len() + b.len())?;
     let mut sweep = Sweep::start(a, b);
     while let Some(step) = sweep.next() {
-        let Some(point) = sum(step) else {
+        let Some(point) = sum_point(step) else {
             continue;
         };
         points.push(point)?;
@@ -49,16 +50,17 @@ pub(crate) fn sums(alloc: Global, a: &[Point], b: &[Point]) -> Result<Vec<Point>
     Ok(points)
 }
 
-/// What the cheaper front offers at the step, where that costs less than the last point.
-fn cheaper_than(points: &[Point], step: Step) -> Option<Point>
+/// What the cheaper front offers at the step, where that is below the last cost so far.
+fn cheaper_point(points: &[Point], step: Step) -> Option<Point>
     ensures need { IfSome result (λ point. point.need ≡ step.need) }
-    ensures cost { IfSome result (λ point. lesser (cost_of step.left) (cost_of step.right) ≡ Some point.cost) }
-    ensures less { IfSome result (λ point. ForSome (last_cost points.now) (λ last. point.cost < last)) }
-    ensures none { IfNone result (ForSome (lesser (cost_of step.left) (cost_of step.right)) (λ cost. IsSomeAnd (last_cost points.now) (λ last. last ≤ cost))) }
+    ensures cost { IfSome result (λ point. lesser_offer step ≡ Some point.cost) }
+    ensures less { IfSome result
+        (λ point. ForSome (last_cost points.now) (λ last. point.cost < last)) }
+    ensures none { IfNone result (NoDearer (last_cost points.now) (lesser_offer step)) }
 {
     let cost = lesser_cost(step)?;
-    match points.last() {
-        Some(last) if last.cost <= cost => None,
+    match last_cost(points) {
+        Some(last) if last <= cost => None,
         _ => Some(Point {
             need: step.need,
             cost,
@@ -68,7 +70,7 @@ fn cheaper_than(points: &[Point], step: Step) -> Option<Point>
 
 /// What the cheaper front costs at the step, cents.
 fn lesser_cost(step: Step) -> Option<u64>
-    ensures { result ≡ lesser (cost_of step.left) (cost_of step.right) }
+    ensures { result ≡ lesser_offer step }
 {
     match (step.left, step.right) {
         (Some(p), Some(q)) => Some(p.cost.min(q.cost)),
@@ -77,10 +79,10 @@ fn lesser_cost(step: Step) -> Option<u64>
 }
 
 /// What both fronts offer together at the step, where both offer a point.
-fn sum(step: Step) -> Option<Point>
-    requires { ForSome (sum_of_both (cost_of step.left) (cost_of step.right)) (λ cost. cost < 2 ^ 64) }
+fn sum_point(step: Step) -> Option<Point>
+    requires { ForSome (sum_offer step) (λ cost. cost < 2 ^ 64) }
     ensures need { IfSome result (λ point. point.need ≡ step.need) }
-    ensures cost { cost_of result ≡ sum_of_both (cost_of step.left) (cost_of step.right) }
+    ensures cost { cost_of result ≡ sum_offer step }
 {
     match (step.left, step.right) {
         (Some(p), Some(q)) => Some(Point {

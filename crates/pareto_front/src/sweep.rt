@@ -1,8 +1,7 @@
 //! A sweep over the needs of two fronts, in rising order, each need once.
 ghost use Rattle.std.specs.Prelude.{◌≡◌, ◌+◌, ◌<◌, ◌≤◌, IfNone, IfSome, Some, length};
-ghost use Rattle.std.specs.Option.{option_map};
 ghost use Rattle.pareto_front.specs.Front.{IsFront, cheapest, lesser};
-ghost use Rattle.pareto_front.specs.Sweep.{next_need, IsReadTo};
+ghost use Rattle.pareto_front.specs.Sweep.{cost_of, next_need, IsReadTo};
 
 use crate::point::Point;
 use std::marker::Model;
@@ -52,10 +51,10 @@ impl<'a> Sweep<'a> {
 
     /// The next need, and what each front offers there.
     pub(crate) fn next(&mut self) -> Option<Step>
-        ensures none { IfNone result (points_left self.old ≡ 0) }
-        ensures step { IfSome result (Steps self.old self.new) }
+        ensures some { IfSome result (Steps self.old self.new) }
         ensures fewer { IfSome result (λ _. points_left self.new < points_left self.old) }
-        ensures end { IfNone result (self.new ≡ self.old) }
+        ensures none { IfNone result (points_left self.old ≡ 0) }
+        ensures kept { IfNone result (self.new ≡ self.old) }
     {
         let need = least_need(self.left.next_need(), self.right.next_need())?;
         Some(Step {
@@ -90,11 +89,11 @@ impl<'a> Reading<'a> {
         self.points.get(self.read).map(|point| point.need)
     }
 
-    /// The last point within this need, dPa, which no point that is left is below.
+    /// The last point within this need, dPa. No point that is left needs less.
     fn last_within(&mut self, need: u64) -> Option<Point>
         requires front { IsFront self.old.points.now }
         requires next { IsReadTo need self.old.points.now self.old.read }
-        ensures cost { option_map (λ point. point.cost) result ≡ cheapest self.old.points.now need }
+        ensures cost { cost_of result ≡ cheapest self.old.points.now need }
         ensures points { self.new.points.now ≡ self.old.points.now }
         ensures read { IsReadTo (need + 1) self.new.points.now self.new.read }
         ensures forward { self.old.read ≤ self.new.read }

@@ -17,8 +17,8 @@ last_within-requires-2-clause-next c =
     let least : lesser (next_need at.left at.left_read) (next_need at.right at.right_read) ≡ Some c.in_ok-need.need = cc (c.in_ok-need.ensures) in
     (IsEven-reaches at c.in_ok-need.need c.self.invariant least).right
 
-pub returns-clause-step : goal.returns-clause-step
-returns-clause-step c =
+pub returns-clause-some : goal.returns-clause-some
+returns-clause-some c =
     let at : Progress = progress_of c.self.inside.left c.self.inside.right in
     let least : lesser (next_need at.left at.left_read) (next_need at.right at.right_read) ≡ Some c.in_ok-need.need = cc (c.in_ok-need.ensures) in
     let reached = IsEven-reaches at c.in_ok-need.need c.self.invariant least in

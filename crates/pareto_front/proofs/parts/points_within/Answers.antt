@@ -5,7 +5,7 @@ use Rattle.pareto_front.specs.declared.point.Point.{Point}
 use Rattle.pareto_front.specs.Sweep.{IsReadTo}
 use Rattle.pareto_front.proofs.Cuts.{needs_rise, IsFront-take, read_from_point}
 use Rattle.pareto_front.proofs.Prices.{cheapest-take}
-use Rattle.pareto_front.proofs.reading.points_within.Goals as goal
+use Rattle.pareto_front.proofs.parts.points_within.Goals as goal
 
 read : (c : goal.After-partition_point-count) → IsReadTo (c.args.need + 1) c.args.points.now c.partition_point-count.result
 read c =

@@ -1,7 +1,7 @@
 use Rattle.pareto_front.specs.Front.{lesser}
 use Rattle.pareto_front.specs.Sweep.{points_left}
 use Rattle.pareto_front.proofs.Swept.{Swept}
-use Rattle.pareto_front.proofs.merge.lessers.Given as goal
+use Rattle.pareto_front.proofs.merge.either_points.Given as goal
 
 abbrev pub invariant-loop-step : goal.invariant-loop-step
 invariant-loop-step l = Swept lesser l.a l.b l.sweep l.points.items
