@@ -13,3 +13,6 @@ mod sweep;
 
 pub use front::Front;
 pub use point::Point;
+
+#[cfg(test)]
+mod tests;
