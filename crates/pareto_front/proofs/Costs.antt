@@ -1,15 +1,27 @@
--- How a sum and a lesser of two costs move with them. No cost is above every cost.
-use Rattle.std.proofs.Common.{◌≡◌, ℕ, ◌+◌, ◌<◌, ◌≤◌, Option, Some, None, refl, arith, inl, inr, ◌⊎◌, min}
+-- How the sum and the lesser of two costs move with them. No cost counts as above every cost.
+use Rattle.std.proofs.Common.{◌≡◌, ℕ, ◌+◌, ◌<◌, ◌≤◌, Option, Some, None, refl, ap, arith, inl, inr, ◌⊎◌, min}
 use Rattle.std.specs.Prelude.{IsSomeAnd}
 use Rattle.std.specs.Option.{ForSome}
 use Rattle.pareto_front.specs.Front.{NoDearer, lesser, sum_of_both}
 
--- the new cost is below the old one, or there was none
+-- the new cost is below the old one, if there is an old one
 abbrev pub Cheaper : Option ℕ → Option ℕ → Type 0
-Cheaper new old = ForSome old (λ x. IsSomeAnd new (λ y. y < x))
+Cheaper new old = ForSome old (λ was. IsSomeAnd new (λ is. is < was))
 
--- a sum falls with either part
-pub sum_falls : (x y u v : Option ℕ) (c d : ℕ) → NoDearer x u → NoDearer y v → Cheaper x u ⊎ Cheaper y v → sum_of_both x y ≡ Some c → sum_of_both u v ≡ Some d → c < d
+-- two costs of which neither is dearer are equal
+pub same_cost : (x y : Option ℕ) → NoDearer x y → NoDearer y x → x ≡ y
+same_cost None None x_less y_less = refl
+same_cost None (Some v) x_less y_less = absurd (x_less v refl)
+same_cost (Some u) None x_less y_less = absurd (y_less u refl)
+same_cost (Some u) (Some v) x_less y_less =
+    let low : u ≤ v = x_less v refl in
+    let high : v ≤ u = y_less u refl in
+    let same : u ≡ v = omega arith in
+    ap Some same
+
+-- a sum falls where one part does and the other doesn't rise
+pub sum_falls : (x y u v : Option ℕ) (c d : ℕ) → NoDearer x u → NoDearer y v → Cheaper x u ⊎ Cheaper y v
+    → sum_of_both x y ≡ Some c → sum_of_both u v ≡ Some d → c < d
 sum_falls x y None v c d x_less y_less one new old = absurd (cc)
 sum_falls x y (Some u) None c d x_less y_less one new old = absurd (cc)
 sum_falls None y (Some u) (Some v) c d x_less y_less one new old = absurd (cc)
@@ -19,7 +31,10 @@ sum_falls (Some x) (Some y) (Some u) (Some v) c d x_less y_less one new old =
     let old_is : u + v ≡ d = cc in
     let x_at_most : x ≤ u = x_less u refl in
     let y_at_most : y ≤ v = y_less v refl in
-    elim one [ inl of_x ↦ (let less : x < u = of_x u refl in omega arith) | inr of_y ↦ (let less : y < v = of_y v refl in omega arith) ]
+    elim one [
+      | inl of_x ↦ (let less : x < u = of_x u refl in omega arith)
+      | inr of_y ↦ (let less : y < v = of_y v refl in omega arith)
+    ]
 
 -- where there is no sum there was none
 pub sum_was_none : (x y u v : Option ℕ) → NoDearer x u → NoDearer y v → sum_of_both x y ≡ None → sum_of_both u v ≡ None
@@ -29,32 +44,41 @@ sum_was_none None y (Some u) (Some v) x_less y_less none = absurd (x_less u refl
 sum_was_none (Some x) None (Some u) (Some v) x_less y_less none = absurd (y_less v refl)
 sum_was_none (Some x) (Some y) (Some u) (Some v) x_less y_less none = absurd (cc)
 
--- what is there is not above the lesser of it and another
-pub lesser_at_most_left : (x : ℕ) (y : Option ℕ) → IsSomeAnd (lesser (Some x) y) (λ c. c ≤ x)
-lesser_at_most_left x None = omega arith
-lesser_at_most_left x (Some y) = omega arith
+-- the lesser is no dearer than either
+pub lesser-left : (x y : Option ℕ) → NoDearer (lesser x y) x
+lesser-left None y w is = absurd (cc)
+lesser-left (Some x) None w is = let same : x ≡ w = cc in omega arith
+lesser-left (Some x) (Some y) w is = let same : x ≡ w = cc in omega arith
 
-pub lesser_at_most_right : (x : Option ℕ) (y : ℕ) → IsSomeAnd (lesser x (Some y)) (λ c. c ≤ y)
-lesser_at_most_right None y = omega arith
-lesser_at_most_right (Some x) y = omega arith
+pub lesser-right : (x y : Option ℕ) → NoDearer (lesser x y) y
+lesser-right None y w is = over y is where
+  over : (y : Option ℕ) → y ≡ Some w → IsSomeAnd y (λ c. c ≤ w)
+  over None is = absurd (cc)
+  over (Some c) is = let same : c ≡ w = cc in omega arith
+lesser-right (Some x) None w is = absurd (cc)
+lesser-right (Some x) (Some y) w is = let same : y ≡ w = cc in omega arith
 
-at_most_trans : (o : Option ℕ) (c d : ℕ) → IsSomeAnd o (λ x. x ≤ c) → c ≤ d → IsSomeAnd o (λ x. x ≤ d)
-at_most_trans None c d h less = h
-at_most_trans (Some x) c d h less = omega arith
+pub no_dearer_on : (x y z : Option ℕ) → NoDearer x y → NoDearer y z → NoDearer x z
+no_dearer_on x y z x_less y_less w is = over x y x_less (y_less w is) where
+  still : (x : Option ℕ) (v : ℕ) → IsSomeAnd x (λ c. c ≤ v) → v ≤ w → IsSomeAnd x (λ c. c ≤ w)
+  still None v low bound = low
+  still (Some c) v low bound = omega arith
+
+  over : (x y : Option ℕ) → NoDearer x y → IsSomeAnd y (λ c. c ≤ w) → IsSomeAnd x (λ c. c ≤ w)
+  over x None x_less low = absurd low
+  over x (Some v) x_less low = still x v (x_less v refl) low
+
+-- what is no dearer than each of two costs is no dearer than their lesser
+no_dearer-lesser : (o u v : Option ℕ) → NoDearer o u → NoDearer o v → NoDearer o (lesser u v)
+no_dearer-lesser o None v of_u of_v w is = of_v w is
+no_dearer-lesser o (Some u) None of_u of_v w is = of_u w is
+no_dearer-lesser o (Some u) (Some v) of_u of_v w is = over o (of_u u refl) (of_v v refl) where
+  over : (o : Option ℕ) → IsSomeAnd o (λ c. c ≤ u) → IsSomeAnd o (λ c. c ≤ v) → IsSomeAnd o (λ c. c ≤ w)
+  over None low high = low
+  over (Some c) low high = let least : min u v ≡ w = cc in omega arith
 
 -- the lesser never rises
 pub lesser_falls : (x y u v : Option ℕ) → NoDearer x u → NoDearer y v → NoDearer (lesser x y) (lesser u v)
-lesser_falls x y None None x_less y_less d is = absurd (cc)
-lesser_falls x y (Some u) None x_less y_less d is = from_left x (x_less u refl) where
-  from_left : (x : Option ℕ) → IsSomeAnd x (λ c. c ≤ u) → IsSomeAnd (lesser x y) (λ c. c ≤ d)
-  from_left None h = absurd h
-  from_left (Some c) h = let same : u ≡ d = cc in at_most_trans (lesser (Some c) y) c d (lesser_at_most_left c y) (omega arith)
-lesser_falls x y None (Some v) x_less y_less d is = from_right y (y_less v refl) where
-  from_right : (y : Option ℕ) → IsSomeAnd y (λ c. c ≤ v) → IsSomeAnd (lesser x y) (λ c. c ≤ d)
-  from_right None h = absurd h
-  from_right (Some c) h = let same : v ≡ d = cc in at_most_trans (lesser x (Some c)) c d (lesser_at_most_right x c) (omega arith)
-lesser_falls x y (Some u) (Some v) x_less y_less d is = from_both x y (x_less u refl) (y_less v refl) where
-  from_both : (x y : Option ℕ) → IsSomeAnd x (λ c. c ≤ u) → IsSomeAnd y (λ c. c ≤ v) → IsSomeAnd (lesser x y) (λ c. c ≤ d)
-  from_both None y h k = absurd h
-  from_both (Some c) None h k = absurd k
-  from_both (Some c) (Some e) h k = let least : min u v ≡ d = cc in omega arith
+lesser_falls x y u v x_less y_less =
+    no_dearer-lesser (lesser x y) u v
+    (no_dearer_on (lesser x y) x u (lesser-left x y) x_less) (no_dearer_on (lesser x y) y v (lesser-right x y) y_less)

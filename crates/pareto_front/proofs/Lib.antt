@@ -1,9 +1,12 @@
+pub mod Among
 pub mod Bounds
 pub mod Costs
 pub mod Cuts
 pub mod Even
 pub mod Falls
 pub mod Lessers
+pub mod Needs
+pub mod Order
 pub mod Points
 pub mod Prices
 pub mod ReadOn

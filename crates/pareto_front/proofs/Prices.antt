@@ -1,12 +1,14 @@
 -- The cheapest of a list of points at a budget: joined lists, parts, and budgets past every need.
 use Rattle.std.proofs.Common.{◌≡◌, ℕ, suc, ◌-◌, ◌<◌, ◌≤◌, List, [], ◌∷◌, ◌++◌, take, drop, length, Option, Some, None, refl, ap, sym, ◌∙◌, arith}
-use Rattle.std.specs.Prelude.{All, slice_get}
-use Rattle.std.specs.Option.{option_or, option_map}
+use Rattle.std.specs.Prelude.{slice_get}
+use Rattle.std.specs.Option.{option_or}
 use Rattle.std.proofs.lemmas.List.{take-append-drop}
 use Rattle.std.proofs.lemmas.List.Elements.{All-head, All-tail}
 use Rattle.std.proofs.lemmas.Bool.Decides.{nat_tests}
 use Rattle.pareto_front.specs.declared.point.Point.{Point}
 use Rattle.pareto_front.specs.Front.{cheapest, price_of}
+use Rattle.pareto_front.specs.Sweep.{cost_of, last_cost}
+use Rattle.pareto_front.proofs.Needs.{NeedsAbove, NeedsWithin}
 
 pub price_of-within : (p : Point) (b : ℕ) → p.need ≤ b → price_of p b ≡ Some p.cost
 price_of-within p b within = grind (arith, nat_tests)
@@ -30,48 +32,52 @@ cheapest-append (p ∷ ps) qs b =
     ∙ option_or-assoc (cheapest qs b) (cheapest ps b) (price_of p b)
 
 -- a list whose every need is above the budget has no price
-pub cheapest-above : (ps : List Point) (b : ℕ) → All (λ p. b < p.need) ps → cheapest ps b ≡ None
+pub cheapest-above : (ps : List Point) (b : ℕ) → NeedsAbove b ps → cheapest ps b ≡ None
 cheapest-above [] b above = refl
 cheapest-above (p ∷ ps) b above =
     ap (λ o. option_or o (price_of p b)) (cheapest-above ps b (All-tail (λ q. b < q.need) p ps above))
     ∙ price_of-above p b (All-head (λ q. b < q.need) p ps above)
 
 -- past every need the budget does not matter
-pub cheapest-past : (ps : List Point) (b c : ℕ) → All (λ p. p.need ≤ b) ps → All (λ p. p.need ≤ c) ps → cheapest ps b ≡ cheapest ps c
+pub cheapest-past : (ps : List Point) (b c : ℕ) → NeedsWithin b ps → NeedsWithin c ps → cheapest ps b ≡ cheapest ps c
 cheapest-past [] b c within_b within_c = refl
 cheapest-past (p ∷ ps) b c within_b within_c =
-    ap (λ o. option_or o (price_of p b)) (cheapest-past ps b c (All-tail (λ q. q.need ≤ b) p ps within_b) (All-tail (λ q. q.need ≤ c) p ps within_c))
-    ∙ ap (option_or (cheapest ps c)) (price_of-within p b (All-head (λ q. q.need ≤ b) p ps within_b) ∙ sym (price_of-within p c (All-head (λ q. q.need ≤ c) p ps within_c)))
+    let at_b = price_of-within p b (All-head (λ q. q.need ≤ b) p ps within_b) in
+    let at_c = price_of-within p c (All-head (λ q. q.need ≤ c) p ps within_c) in
+    let later = cheapest-past ps b c (All-tail (λ q. q.need ≤ b) p ps within_b) (All-tail (λ q. q.need ≤ c) p ps within_c) in
+    ap (λ o. option_or o (price_of p b)) later ∙ ap (option_or (cheapest ps c)) (at_b ∙ sym at_c)
 
 -- what lies above the budget may be cut off
-pub cheapest-take : (ps : List Point) (i b : ℕ) → All (λ p. b < p.need) (drop i ps) → cheapest (take i ps) b ≡ cheapest ps b
+pub cheapest-take : (ps : List Point) (i b : ℕ) → NeedsAbove b (drop i ps) → cheapest (take i ps) b ≡ cheapest ps b
 cheapest-take ps i b above =
     sym (
     ap (λ l. cheapest l b) (sym (take-append-drop i ps))
     ∙ cheapest-append (take i ps) (drop i ps) b
     ∙ ap (λ o. option_or o (cheapest (take i ps) b)) (cheapest-above (drop i ps) b above))
 
-last-cons : (p q : Point) (ps : List Point) → slice_get (p ∷ q ∷ ps) (suc (suc (length ps)) - 1) ≡ slice_get (q ∷ ps) (suc (length ps) - 1)
-last-cons p q ps = ap (slice_get (p ∷ q ∷ ps)) (let e : suc (suc (length ps)) - 1 ≡ suc (suc (length ps) - 1) = omega arith in e)
-
-option_or-Some : (o p : Option ℕ) (x : ℕ) → o ≡ Some x → option_or o p ≡ o
-option_or-Some None p x is = absurd (cc)
-option_or-Some (Some y) p x is = refl
-
--- a list whose every need is within the budget has a price, unless it is empty
-cheapest-some : (p : Point) (ps : List Point) (b : ℕ) → All (λ q. q.need ≤ b) (p ∷ ps) → (x : ℕ) × (cheapest (p ∷ ps) b ≡ Some x)
-cheapest-some p ps b within = go (cheapest ps b) where
+-- a list whose first point is within the budget has a price
+pub cheapest-first : (p : Point) (ps : List Point) (b : ℕ) → p.need ≤ b → (x : ℕ) × (cheapest (p ∷ ps) b ≡ Some x)
+cheapest-first p ps b within = go (cheapest ps b) where
   go : (o : Option ℕ) → (x : ℕ) × (option_or o (price_of p b) ≡ Some x)
-  go None = (p.cost, price_of-within p b (All-head (λ q. q.need ≤ b) p ps within))
+  go None = (p.cost, price_of-within p b within)
   go (Some x) = (x, refl)
 
+later_decides : (o p : Option ℕ) (x : ℕ) → o ≡ Some x → option_or o p ≡ o
+later_decides None p x is = absurd (cc)
+later_decides (Some y) p x is = refl
+
+last-cons : (p q : Point) (ps : List Point) → last_cost (p ∷ q ∷ ps) ≡ last_cost (q ∷ ps)
+last-cons p q ps =
+    let place : suc (suc (length ps)) - 1 ≡ suc (suc (length ps) - 1) = omega arith in
+    ap (λ i. cost_of (slice_get (p ∷ q ∷ ps) i)) place
+
 -- where every need is within the budget, the last point has the price
-pub cheapest-last : (ps : List Point) (b : ℕ) → All (λ p. p.need ≤ b) ps → cheapest ps b ≡ option_map (λ p. p.cost) (slice_get ps (length ps - 1))
+pub cheapest-last : (ps : List Point) (b : ℕ) → NeedsWithin b ps → cheapest ps b ≡ last_cost ps
 cheapest-last [] b within = refl
 cheapest-last (p ∷ []) b within = price_of-within p b (All-head (λ q. q.need ≤ b) p [] within)
 cheapest-last (p ∷ q ∷ ps) b within =
     let rest = All-tail (λ r. r.need ≤ b) p (q ∷ ps) within in
-    let (x, is) = cheapest-some q ps b rest in
-    option_or-Some (cheapest (q ∷ ps) b) (price_of p b) x is
+    let (x, is) = cheapest-first q ps b (All-head (λ r. r.need ≤ b) q ps rest) in
+    later_decides (cheapest (q ∷ ps) b) (price_of p b) x is
     ∙ cheapest-last (q ∷ ps) b rest
-    ∙ ap (option_map (λ r. r.cost)) (sym (last-cons p q ps))
+    ∙ sym (last-cons p q ps)

@@ -1,11 +1,11 @@
 -- One step of a sweep over the needs of two fronts.
 use Rattle.std.proofs.Common.{◌≡◌, ℕ, ◌+◌, ◌<◌, ◌≤◌, List, [], ◌∷◌, ◌++◌, take, drop, Option, Some, ap, sym, ◌∙◌, arith, inl, inr}
 use Rattle.std.specs.Option.{option_or}
-use Rattle.std.proofs.lemmas.List.Elements.{All-weaker}
 use Rattle.std.proofs.lemmas.Bool.Decides.{leb_tells}
 use Rattle.pareto_front.specs.declared.point.Point.{Point}
 use Rattle.pareto_front.specs.Front.{cheapest}
 use Rattle.pareto_front.specs.Sweep.{IsReadTo}
+use Rattle.pareto_front.proofs.Needs.{above_from, within_from_below}
 use Rattle.pareto_front.proofs.Prices.{price_of-within, price_of-above, cheapest-append, cheapest-past, cheapest-take}
 
 -- the new points have the prices of the old below the need, and this price from there on
@@ -21,24 +21,30 @@ Extends-push ps q = record {
 }
 
 -- a front that is read past one more need
-pub Extends-read : (ps : List Point) (need i j : ℕ) → IsReadTo need ps i → IsReadTo (need + 1) ps j → Extends need (cheapest ps need) (take i ps) (take j ps)
+pub Extends-read : (ps : List Point) (need i j : ℕ) → IsReadTo need ps i → IsReadTo (need + 1) ps j
+    → Extends need (cheapest ps need) (take i ps) (take j ps)
 Extends-read ps need i j before after = record {
   below = λ b under.
-      cheapest-take ps j b (All-weaker (λ p. need + 1 ≤ p.need) (λ p. b < p.need) (λ p h. omega arith) (drop j ps) after.rest)
-      ∙ sym (cheapest-take ps i b (All-weaker (λ p. need ≤ p.need) (λ p. b < p.need) (λ p h. omega arith) (drop i ps) before.rest));
+      cheapest-take ps j b (above_from (need + 1) b (drop j ps) (omega arith) after.rest)
+      ∙ sym (cheapest-take ps i b (above_from need b (drop i ps) (omega arith) before.rest));
   from = λ b over.
       cheapest-past (take j ps) b need
-      (All-weaker (λ p. p.need < need + 1) (λ p. p.need ≤ b) (λ p h. omega arith) (take j ps) after.read)
-      (All-weaker (λ p. p.need < need + 1) (λ p. p.need ≤ need) (λ p h. omega arith) (take j ps) after.read)
-      ∙ cheapest-take ps j need (All-weaker (λ p. need + 1 ≤ p.need) (λ p. need < p.need) (λ p h. omega arith) (drop j ps) after.rest);
+      (within_from_below (need + 1) b (take j ps) (omega arith) after.read)
+      (within_from_below (need + 1) need (take j ps) (omega arith) after.read)
+      ∙ cheapest-take ps j need (above_from (need + 1) need (drop j ps) (omega arith) after.rest);
 }
 
 -- what joins the prices of two lists at every budget still does past one more need
-pub step : (join : Option ℕ → Option ℕ → Option ℕ) (need : ℕ) (x y : Option ℕ) (a a' b b' k k' : List Point)
+pub Extends-joined : (join : Option ℕ → Option ℕ → Option ℕ) (need : ℕ) (x y : Option ℕ) (a a' b b' k k' : List Point)
     → Extends need x a a' → Extends need y b b' → Extends need (join x y) k k'
     → ((budget : ℕ) → cheapest k budget ≡ join (cheapest a budget) (cheapest b budget))
     → (budget : ℕ) → cheapest k' budget ≡ join (cheapest a' budget) (cheapest b' budget)
-step join need x y a a' b b' k k' of_a of_b of_k before budget = elim (leb_tells need budget) [
-  | inl over ↦ of_k.from budget over.1 ∙ sym (ap (λ o. join o (cheapest b' budget)) (of_a.from budget over.1) ∙ ap (join x) (of_b.from budget over.1))
-  | inr under ↦ of_k.below budget under.1 ∙ before budget ∙ sym (ap (λ o. join o (cheapest b' budget)) (of_a.below budget under.1) ∙ ap (join (cheapest a budget)) (of_b.below budget under.1))
+Extends-joined join need x y a a' b b' k k' of_a of_b of_k before budget = elim (leb_tells need budget) [
+  | inl over ↦
+      of_k.from budget over.1
+      ∙ sym (ap (λ o. join o (cheapest b' budget)) (of_a.from budget over.1) ∙ ap (join x) (of_b.from budget over.1))
+  | inr under ↦
+      of_k.below budget under.1
+      ∙ before budget
+      ∙ sym (ap (λ o. join o (cheapest b' budget)) (of_a.below budget under.1) ∙ ap (join (cheapest a budget)) (of_b.below budget under.1))
 ]

@@ -1,6 +1,8 @@
 -- A sweep over the needs of two fronts, in rising order.
 --   next_need points i         the need of the point at i, if there is one
 --   last_cost points           the cost of the last point, if there is one
+--   NeedsBelow need points     every need is below this one
+--   NeedsFrom need points      no need is below this one
 --   IsReadTo need points i     the first i points need less than this, and the others don't
 --   Progress                   the points of both fronts, and how many of each are read
 --   points_left progress       how many points of both are left to read
@@ -44,10 +46,18 @@ next_need points i = option_map (λ point. point.need) (slice_get points i)
 abbrev pub points_left : Progress → ℕ
 points_left at = (length at.left - at.left_read) + (length at.right - at.right_read)
 
+-- every need is below this one
+abbrev pub NeedsBelow : ℕ → List Point → Type 0
+NeedsBelow need points = All (λ point. point.need < need) points
+
+-- no need is below this one
+abbrev pub NeedsFrom : ℕ → List Point → Type 0
+NeedsFrom need points = All (λ point. need ≤ point.need) points
+
 -- the first i points are those that need less than this
 pub record IsReadTo (need : ℕ) (points : List Point) (i : ℕ) : Type 0 where
-  pub read : All (λ point. point.need < need) (take i points)
-  pub rest : All (λ point. need ≤ point.need) (drop i points)
+  pub read : NeedsBelow need (take i points)
+  pub rest : NeedsFrom need (drop i points)
 
 -- both are fronts, and both are read up to one need
 pub record IsEven (at : Progress) : Type 0 where

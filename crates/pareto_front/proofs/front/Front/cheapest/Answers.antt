@@ -12,4 +12,6 @@ returns-clause-value c =
 
 pub returns-clause-none : goal.returns-clause-none
 returns-clause-none c =
-    subst (λ o. IsNone o ↔ IsBelowFirst c.args.budget c.args.self.now) (sym (returns-clause-value c)) (cheapest-none c.args.self.now c.args.budget c.points.ensures.front)
+    let front = c.args.self.now in
+    let budget = c.args.budget in
+    subst (λ o. IsNone o ↔ IsBelowFirst budget front) (sym (returns-clause-value c)) (cheapest-none front budget c.points.ensures.front)

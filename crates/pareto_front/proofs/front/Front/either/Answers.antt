@@ -1,6 +1,6 @@
 use Rattle.std.proofs.Common.{sym, ap, subst, ◌∙◌}
 use Rattle.pareto_front.specs.Front.{IsFront, cheapest, lesser}
-use Rattle.pareto_front.proofs.Bounds.{lesser_points}
+use Rattle.pareto_front.proofs.Among.{lesser_among}
 use Rattle.pareto_front.proofs.front.Front.either.Goals as goal
 
 pub returns-clause-value : goal.returns-clause-value
@@ -12,5 +12,5 @@ returns-clause-value c budget =
 
 pub returns-clause-among : goal.returns-clause-among
 returns-clause-among c =
-    lesser_points c.args.a.now c.args.b.now c.from_vec.result c.points.ensures.front c.points-2.ensures.front
+    lesser_among c.args.a.now c.args.b.now c.from_vec.result c.points.ensures.front c.points-2.ensures.front
     (subst IsFront (sym c.from_vec.ensures) c.in_ok-points.ensures.front) (returns-clause-value c)
