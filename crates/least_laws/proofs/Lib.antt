@@ -1,0 +1,8 @@
+pub mod Ducts
+pub mod Prices
+pub mod Combine
+pub mod Step
+pub mod Theorem
+-- pub mod Recursion
+-- pub mod Optimal
+-- pub mod Descent
