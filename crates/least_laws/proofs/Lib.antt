@@ -3,6 +3,6 @@ pub mod Prices
 pub mod Combine
 pub mod Step
 pub mod Theorem
--- pub mod Recursion
--- pub mod Optimal
+pub mod Unique
+pub mod Optimal
 -- pub mod Descent

@@ -34,7 +34,7 @@ module _ (net : Ducts) (falls : Falls net.next) where
       }
 
   -- a section beyond s is beyond a child within the network
-  child-within : (c t : ℕ) → t < net.count → goes_by net.next (At c) t ≡ true → c < net.count
+  pub child-within : (c t : ℕ) → t < net.count → goes_by net.next (At c) t ≡ true → c < net.count
   child-within c t less by = let most = goes_by-le net.next falls c t by in omega arith
 
   module _ (s k g b : ℕ) (G : ℕ → ℕ → ℕ) (are : AreSizings net s k b G) where

@@ -47,3 +47,15 @@ total-one f k (suc n) l h =
           let e : f n ≡ 0 = h n (omega arith) p.1 in
           omega arith)
     ]
+
+-- where each term is at most the other's, and their sum is at least the others', the terms are equal
+pub total-tight : (f g : ℕ → ℕ) (n : ℕ) → ((t : ℕ) → t < n → f t ≤ g t) → total g n ≤ total f n
+    → (t : ℕ) → t < n → f t ≡ g t
+total-tight f g zero below tight t less = absurd (omega arith)
+total-tight f g (suc n) below tight t less =
+    let all = total-le f g n (λ u under. below u (omega arith)) in
+    let last : f n ≤ g n = below n (omega arith) in
+    elim (eqb_tells t n) [
+      | inl equal ↦ ap f equal.1 ∙ (let same : f n ≡ g n = omega arith in same) ∙ ap g (sym equal.1)
+      | inr other ↦ total-tight f g n (λ u under. below u (omega arith)) (omega arith) t (let differ = other.1 in omega arith)
+    ]
