@@ -5,4 +5,5 @@ pub mod Step
 pub mod Theorem
 pub mod Unique
 pub mod Optimal
--- pub mod Descent
+pub mod Side
+pub mod Descent

@@ -8,7 +8,7 @@ use Rattle.tree_sums.proofs.Totals.{total-cong}
 use Rattle.tree_sums.proofs.Places.{same-true, gated-cong}
 use Rattle.tree_sums.proofs.Split.{goes_by-le, beyond-section}
 use Rattle.tree_sums.proofs.Along.{along-split, along-self}
-use Rattle.tree_sums.proofs.Beyond.{goes_by-up, first-step, beyond-cases, along-cong, beyond-cong}
+use Rattle.tree_sums.proofs.Beyond.{goes_by-from, first-step, beyond-cases, along-cong, beyond-cong}
 use Rattle.least_laws.proofs.Ducts.{Ducts, size_at, chosen, loss, price, IsBeside, IsSizing, price_sum}
 use Rattle.least_laws.proofs.Combine.{combined, combined-beyond, combined-here, combined-beside}
 
@@ -23,7 +23,7 @@ module _ (net : Ducts) (falls : Falls net.next) where
       → IsSizing net (At c) (b - loss net f s) f
   sizing-child s c b f child sizing =
       let more : (t : ℕ) → goes_by net.next (At c) t ≡ true → goes_by net.next (At s) t ≡ true =
-      goes_by-up net.next falls s c child in
+      goes_by-from net.next falls (At s) c child in
       record {
         in_range = λ t less by. sizing.in_range t less (more t by);
         there = λ t less by. sizing.there t less (more t by);

@@ -9,7 +9,7 @@ use Rattle.tree_sums.proofs.Totals.{total-cong, total-le}
 use Rattle.tree_sums.proofs.Places.{same-refl, same-true, gated-cong}
 use Rattle.tree_sums.proofs.Split.{beyond-section}
 use Rattle.tree_sums.proofs.Along.{along-split, along-self}
-use Rattle.tree_sums.proofs.Beyond.{goes_by-up, goes_by-self, beyond-cases}
+use Rattle.tree_sums.proofs.Beyond.{goes_by-from, goes_by-self, beyond-cases}
 use Rattle.least_laws.specs.Prices.{least_below, both_of}
 use Rattle.least_laws.proofs.Ducts.{Ducts, size_at, chosen, loss, price, IsEnd, IsBeside, IsSizing, price_sum, IsLeastSum, joined, sum_with, sum_from, AreLeastSums}
 use Rattle.least_laws.proofs.Prices.{value, IsLeastBelow, least_below-none, least_below-some, IsJoined, joined-none, joined-some, with_pair-is, made}
@@ -46,7 +46,7 @@ module _ (net : Ducts) (falls : Falls net.next) where
         | inl child ↦
             let less = falls child.0 s child.2 in
             let end = end_beyond k child.0 child.1 (omega arith) in
-            (end.0, end.1, end.2, goes_by-up net.next falls s child.0 child.2 end.0 end.3)
+            (end.0, end.1, end.2, goes_by-from net.next falls (At s) child.0 child.2 end.0 end.3)
         | inr none ↦ (s, within, none, goes_by-self net.next falls s)
       ]
 

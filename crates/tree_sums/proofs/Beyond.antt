@@ -38,22 +38,39 @@ module _ (next : ℕ → Place) (falls : Falls next) where
         ]
       ] refl
 
-  -- what lies beyond a child lies beyond the section
-  pub goes_by-up : (s c : ℕ) → next c ≡ At s → (t : ℕ) → goes_by next (At c) t ≡ true → goes_by next (At s) t ≡ true
-  goes_by-up s c child =
-      climb next falls (λ t. goes_by next (At c) t ≡ true → goes_by next (At s) t ≡ true)
+  -- the route of a section next to o goes by o
+  goes_by-next : (o : Place) (c : ℕ) → next c ≡ o → goes_by next o c ≡ true
+  goes_by-next (Fan x) c is = goes_by-fan next falls c x is (Fan x) ∙ or-right (same (Fan x) (At c)) (same (Fan x) (Fan x)) (same-refl (Fan x))
+  goes_by-next (At s) c is = goes_by-more (At s) c s is (goes_by-self s)
+
+  -- and so do the routes that go by such a section
+  pub goes_by-from : (o : Place) (c : ℕ) → next c ≡ o
+      → (t : ℕ) → goes_by next (At c) t ≡ true → goes_by next o t ≡ true
+  goes_by-from o c beside =
+      climb next falls (λ t. goes_by next (At c) t ≡ true → goes_by next o t ≡ true)
       (λ t x is by. elim (first-step c t by) [
-        | inl here ↦ let end : At s ≡ Fan x = sym child ∙ ap next here ∙ is in cc end
-        | inr later ↦ let end = sym is ∙ later.1 in cc end
+        | inl here ↦ subst (λ u. goes_by next o u ≡ true) here (goes_by-next o c beside)
+        | inr later ↦ let end = sym is ∙ later.1 in absurd (cc end)
       ])
       (λ t p is rest by. elim (first-step c t by) [
-        | inl here ↦
-            let end : At s ≡ At p = sym child ∙ ap next here ∙ is in
-            goes_by-more (At s) t p is (subst (λ u. goes_by next (At s) u ≡ true) (at-number s p end) (goes_by-self s))
+        | inl here ↦ subst (λ u. goes_by next o u ≡ true) here (goes_by-next o c beside)
         | inr later ↦
-            goes_by-more (At s) t p is
+            goes_by-more o t p is
             (rest (subst (λ u. goes_by next (At c) u ≡ true) (at-number later.0 p (sym later.1 ∙ is)) later.2))
       ])
+
+  -- a route that goes by a side of the fan goes by one section there
+  pub fan-cases : (x : Side) (t : ℕ) → goes_by next (Fan x) t ≡ true
+      → (r : ℕ) × (next r ≡ Fan x) × (goes_by next (At r) t ≡ true)
+  fan-cases x =
+      climb next falls
+      (λ t. goes_by next (Fan x) t ≡ true → (r : ℕ) × (next r ≡ Fan x) × (goes_by next (At r) t ≡ true))
+      (λ t y is by.
+      let end : same (Fan x) (Fan y) ≡ true = sym (goes_by-fan next falls t y is (Fan x)) ∙ by in
+      (t, is ∙ sym (same-true (Fan x) (Fan y) end), goes_by-self t))
+      (λ t p is rest by.
+      let root = rest (sym (goes_by-at next falls t p is (Fan x)) ∙ by) in
+      (root.0, root.1, goes_by-more (At root.0) t p is root.2))
 
   -- what lies beyond s is s or lies beyond a child of s
   pub beyond-cases : (s t : ℕ) → goes_by next (At s) t ≡ true
