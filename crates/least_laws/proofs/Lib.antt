@@ -7,3 +7,4 @@ pub mod Unique
 pub mod Optimal
 pub mod Side
 pub mod Descent
+pub mod TreePlaces
