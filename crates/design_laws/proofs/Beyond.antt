@@ -30,7 +30,7 @@ goes_on t leaf s n tree within among is =
     (suc leaf) leaf (omega arith) within (λ y here. here) s among in
     held n (subst (Among n) (sym (way-beside t s n tree (stays t leaf s tree within among).0 is)) (inr (inl refl)))
 
-no_item : (x : ℕ) (xs : List ℕ) → Among x xs → length xs ≡ 0 → ⊥
+pub no_item : (x : ℕ) (xs : List ℕ) → Among x xs → length xs ≡ 0 → ⊥
 no_item x [] among none = among
 no_item x (y ∷ ys) among none = absurd (omega arith)
 

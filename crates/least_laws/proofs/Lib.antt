@@ -8,3 +8,5 @@ pub mod Optimal
 pub mod Side
 pub mod Descent
 pub mod TreePlaces
+pub mod SumOf
+pub mod TreeLists
