@@ -10,3 +10,5 @@ pub mod Descent
 pub mod TreePlaces
 pub mod SumOf
 pub mod TreeLists
+pub mod DuctsOf
+pub mod Leasts
