@@ -12,3 +12,5 @@ pub mod SumOf
 pub mod TreeLists
 pub mod DuctsOf
 pub mod Leasts
+pub mod Alike
+pub mod Bounds
