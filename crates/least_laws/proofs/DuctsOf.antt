@@ -33,7 +33,7 @@ size_at-place : (f : ℕ → ℕ) (x : Side) (o : Option ℕ) → size_at f (pla
 size_at-place f x None = refl
 size_at-place f x (Some n) = refl
 
-some-there : (o : Option Pair) → IsSome o → (p : Pair) × (o ≡ Some p)
+pub some-there : (o : Option Pair) → IsSome o → (p : Pair) × (o ≡ Some p)
 some-there None is = absurd (cc is)
 some-there (Some p) is = (p, refl)
 

@@ -14,3 +14,4 @@ pub mod DuctsOf
 pub mod Leasts
 pub mod Alike
 pub mod Bounds
+pub mod DesignSizes

@@ -142,7 +142,7 @@ module _ (t : Tree) (tree : IsTree t) where
             omega arith
       ])
 
-range_with_len-last : (a n : ℕ) → range_with_len a (suc n) ≡ range_with_len a n ++ (a + n) ∷ []
+pub range_with_len-last : (a n : ℕ) → range_with_len a (suc n) ≡ range_with_len a n ++ (a + n) ∷ []
 range_with_len-last a zero = ap (λ k. k ∷ []) (let same : a ≡ a + 0 = omega arith in same)
 range_with_len-last a (suc n) =
     ap (λ ks. a ∷ ks) (range_with_len-last (a + 1) n)

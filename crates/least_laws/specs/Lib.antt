@@ -1,3 +1,4 @@
 pub mod Prices
 pub mod LeastIn
 pub mod SamePairs
+pub mod Choosing
