@@ -15,3 +15,6 @@ pub mod Leasts
 pub mod Alike
 pub mod Bounds
 pub mod DesignSizes
+pub mod SideLeast
+pub mod Taken
+pub mod BestDesign
