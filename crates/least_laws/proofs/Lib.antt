@@ -18,3 +18,4 @@ pub mod DesignSizes
 pub mod SideLeast
 pub mod Taken
 pub mod BestDesign
+pub mod Attained

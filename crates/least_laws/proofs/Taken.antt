@@ -20,7 +20,7 @@ use Rattle.least_laws.proofs.DuctsOf.{ducts_of, sum_with-least_with, sum_from-le
 use Rattle.least_laws.proofs.Leasts.{least_in-step}
 use Rattle.least_laws.proofs.DesignSizes.{sizes_in, size_at-beside, chosen-pair_of}
 
-some-value : (o : Option ℕ) → IsSome o → (v : ℕ) × (o ≡ Some v)
+pub some-value : (o : Option ℕ) → IsSome o → (v : ℕ) × (o ≡ Some v)
 some-value None is = absurd (cc is)
 some-value (Some v) is = (v, refl)
 

@@ -1,0 +1,8 @@
+use Rattle.least_laws.proofs.Alike.{least_agrees, columns-agree}
+use Rattle.least_laws.proofs.least.least_depends_on_pairs_beyond.Goals as goal
+
+pub returns-clause-least : goal.returns-clause-least
+returns-clause-least c = least_agrees
+
+pub returns-clause-columns : goal.returns-clause-columns
+returns-clause-columns c = columns-agree

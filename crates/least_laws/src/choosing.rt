@@ -1,0 +1,44 @@
+//! The way from leasts to the best design.
+
+ghost use Rattle.std.specs.Prelude.{◌≡◌, ◌-◌, ◌<◌, ◌≤◌, ℕ, Some, None, IsSome};
+ghost use Rattle.duct_units.specs.declared.side.Side.{Side};
+ghost use Rattle.duct_definitions.specs.declared.design.Design.{Design};
+ghost use Rattle.duct_definitions.specs.Tree.{IsTree, section_count, neighbour, side};
+ghost use Rattle.duct_definitions.specs.Network.{Network, columns, pair_at};
+ghost use Rattle.duct_definitions.specs.Designs.{loss_of, cost};
+ghost use Rattle.duct_definitions.specs.Order.{IsBest, NoneMeets};
+ghost use Rattle.least_laws.specs.LeastIn.{least_in};
+ghost use Rattle.least_laws.specs.Choosing.{side_least, budget_of, cost_at, IsOffered, IsChosen, Attains, IsDescent};
+
+/// With the first fan and then the least supply budget of the least cost, the design that takes the first size with the
+/// least price at each section, from the fan outwards, is the best, and has that cost.
+pub fn descent_is_best()
+    ensures best { (net : Network) → IsTree net.tree → (d : Design) (supply price : ℕ)
+        → IsChosen net d.fan supply price → (left : ℕ → ℕ)
+        → IsDescent net (budget_of net d.fan supply) left d → IsBest net d }
+    ensures cost { (net : Network) → IsTree net.tree → (d : Design) (supply price : ℕ)
+        → IsChosen net d.fan supply price → (left : ℕ → ℕ)
+        → IsDescent net (budget_of net d.fan supply) left d → cost net d ≡ price }
+{}
+
+/// Where no fan with any supply budget has a cost, no design meets the rules.
+pub fn no_cost_no_design()
+    ensures { (net : Network) → IsTree net.tree
+        → ((fan supply : ℕ) → IsOffered net fan supply → cost_at net fan supply ≡ None) → NoneMeets net }
+{}
+
+/// The way outwards goes on: the leasts of a side's roots are there where the side's is; some size attains a least that
+/// is there; its loss is within the budget, and the leasts of the children beside it are there.
+pub fn descent_goes_on()
+    ensures root { (net : Network) → IsTree net.tree → (x : Side) (budget r : ℕ)
+        → IsSome (side_least net x budget) → r < section_count net.tree
+        → neighbour net.tree r ≡ None → side net.tree r ≡ x → IsSome (least_in net r 0 budget) }
+    ensures size { (net : Network) → IsTree net.tree → (s g budget : ℕ)
+        → s < section_count net.tree → g < columns net s → IsSome (least_in net s g budget)
+        → (k : ℕ) × Attains net s g budget k }
+    ensures loss { (net : Network) → IsTree net.tree → (s g budget k : ℕ)
+        → Attains net s g budget k → loss_of (pair_at net s k g) ≤ budget }
+    ensures child { (net : Network) → IsTree net.tree → (s g budget k c : ℕ)
+        → Attains net s g budget k → neighbour net.tree c ≡ Some s
+        → IsSome (least_in net c k (budget - loss_of (pair_at net s k g))) }
+{}
