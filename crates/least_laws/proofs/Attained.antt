@@ -12,7 +12,8 @@ use Rattle.design_laws.proofs.Ways.{same_side-same}
 use Rattle.least_laws.specs.Prices.{least_below, both_of, sum_of}
 use Rattle.least_laws.specs.LeastIn.{least_with, least_in}
 use Rattle.least_laws.specs.Choosing.{side_least, Attains}
-use Rattle.least_laws.proofs.Prices.{least_below-some, made}
+use Rattle.least_laws.proofs.LeastBelow.{least_below-some}
+use Rattle.least_laws.proofs.WithPair.{made}
 use Rattle.least_laws.proofs.TreePlaces.{neighbour-within}
 use Rattle.least_laws.proofs.Leasts.{least_in-step}
 use Rattle.least_laws.proofs.Taken.{some-value}

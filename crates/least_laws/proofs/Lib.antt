@@ -1,7 +1,10 @@
 pub mod Ducts
-pub mod Prices
+pub mod LeastBelow
+pub mod Joined
+pub mod WithPair
 pub mod Combine
 pub mod Step
+pub mod Ends
 pub mod Theorem
 pub mod Unique
 pub mod Optimal
@@ -17,5 +20,8 @@ pub mod Bounds
 pub mod DesignSizes
 pub mod SideLeast
 pub mod Taken
+pub mod Comparing
+pub mod CostBound
+pub mod DescentMeets
 pub mod BestDesign
 pub mod Attained

@@ -9,9 +9,12 @@ use Rattle.tree_sums.proofs.Places.{same-refl, same-true, gated-cong}
 use Rattle.tree_sums.proofs.Along.{along-split, along-self}
 use Rattle.tree_sums.proofs.Beyond.{goes_by-self, beyond-cases}
 use Rattle.least_laws.proofs.Ducts.{Ducts, size_at, chosen, loss, price, IsBeside, IsSizing, price_sum, IsLeastSum, joined, sum_with, sum_from, AreLeastSums}
-use Rattle.least_laws.proofs.Prices.{value, IsLeastBelow, least_below-some, IsJoined, joined-some, IsMade, made}
+use Rattle.least_laws.proofs.LeastBelow.{value, IsLeastBelow, least_below-some}
+use Rattle.least_laws.proofs.Joined.{IsJoined, joined-some}
+use Rattle.least_laws.proofs.WithPair.{IsMade, made}
 use Rattle.least_laws.proofs.Step.{sizing-child, child-within}
-use Rattle.least_laws.proofs.Theorem.{least-step, bound, IsBound, price_sum-split}
+use Rattle.least_laws.proofs.Ends.{price_sum-split}
+use Rattle.least_laws.proofs.Theorem.{least-step, bound, IsBound}
 use Rattle.least_laws.proofs.Unique.{least-unique}
 
 -- f is a sizing from s on, beside size g and within b, and none costs less

@@ -9,7 +9,8 @@ use Rattle.tree_sums.proofs.Split.{beyond-fan}
 use Rattle.tree_sums.proofs.Along.{along-split}
 use Rattle.tree_sums.proofs.Beyond.{goes_by-from, fan-cases}
 use Rattle.least_laws.proofs.Ducts.{Ducts, size_at, loss, price, IsSizing, price_sum, IsLeastSum, joined}
-use Rattle.least_laws.proofs.Prices.{value, some-same, IsJoined, joined-none, joined-some}
+use Rattle.least_laws.proofs.LeastBelow.{value, some-same}
+use Rattle.least_laws.proofs.Joined.{IsJoined, joined-none, joined-some}
 use Rattle.least_laws.proofs.Step.{child-within}
 use Rattle.least_laws.proofs.Unique.{least-unique}
 use Rattle.least_laws.proofs.Optimal.{IsOptimal}

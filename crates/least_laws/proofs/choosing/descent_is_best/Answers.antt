@@ -1,4 +1,5 @@
-use Rattle.least_laws.proofs.BestDesign.{descent_is_best, descent_cost}
+use Rattle.least_laws.proofs.BestDesign.{descent_is_best}
+use Rattle.least_laws.proofs.DescentMeets.{descent_cost}
 use Rattle.least_laws.proofs.choosing.descent_is_best.Goals as goal
 
 pub returns-clause-best : goal.returns-clause-best

@@ -1,4 +1,4 @@
-use Rattle.least_laws.proofs.BestDesign.{none_meets}
+use Rattle.least_laws.proofs.CostBound.{none_meets}
 use Rattle.least_laws.proofs.choosing.no_cost_no_design.Goals as goal
 
 pub returns : goal.returns

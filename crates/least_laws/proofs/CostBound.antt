@@ -1,0 +1,79 @@
+-- A design that meets the rules costs no less than its fan with its worst supply loss as the budget.
+use Rattle.std.proofs.Common.{◌≡◌, ◌≢◌, ℕ, zero, suc, ◌+◌, ◌-◌, ◌<◌, ◌≤◌, ◌⊎◌, inl, inr, true, false, refl, arith, ap, sym, ◌∙◌, subst, Option, Some, None, List, [], ◌∷◌, length}
+use Rattle.std.proofs.lemmas.Bool.{cases_order}
+use Rattle.std.proofs.lemmas.Bool.Decides.{leb_tells}
+use Rattle.std.specs.Prelude.{IsSome, slice_index, is_some}
+use Rattle.duct_units.specs.declared.side.Side.{Side}
+use Rattle.duct_units.specs.declared.side.Side.TheVariants.{Supply, Return}
+use Rattle.duct_definitions.specs.declared.design.Design.{Design}
+use Rattle.duct_definitions.specs.Tree.{IsTree, section_count, side}
+use Rattle.duct_definitions.specs.Network.{Network, fan_at}
+use Rattle.duct_definitions.specs.Designs.{Fits, Meets, worst, cost}
+use Rattle.duct_definitions.specs.Order.{Earlier, LessOr, Before, IsBest, NoneMeets}
+use Rattle.tree_sums.specs.Route.{Fan, Falls}
+use Rattle.tree_sums.proofs.Places.{same-refl}
+use Rattle.least_laws.specs.Prices.{both_of}
+use Rattle.least_laws.specs.LeastIn.{least_in}
+use Rattle.least_laws.specs.Choosing.{side_least, budget_of, cost_at, IsOffered, IsChosen, IsDescent}
+use Rattle.least_laws.proofs.Ducts.{Ducts, IsSizing, price_sum}
+use Rattle.least_laws.proofs.LeastBelow.{some-same}
+use Rattle.least_laws.proofs.Side.{side_sum, IsSideBound, side-bound, side-tight, side-sizing, side_sum-optimal}
+use Rattle.least_laws.proofs.Descent.{IsBestSizing, first-best, descent-first}
+use Rattle.least_laws.proofs.TreePlaces.{next_in, next_in-falls}
+use Rattle.least_laws.proofs.DuctsOf.{ducts_of}
+use Rattle.least_laws.proofs.SideLeast.{side_sum-least, least_in-sums, least_in-roots}
+use Rattle.least_laws.proofs.DesignSizes.{sizes_in, chosen-pair_of, goes_by-side, cost-sides, sizing-from_meets, worst-le}
+use Rattle.least_laws.proofs.Taken.{left_over, left_over-is, descent-left, descent-first_sizes}
+
+-- the prices of a side of a design
+abbrev pub side_price : Network → Design → Side → ℕ
+side_price net d x = price_sum (ducts_of net) (sizes_in d) (Fan x)
+
+-- a fan with a supply budget costs at most what a design costs that keeps both budgets
+pub record IsCostBound (net : Network) (d : Design) (fan supply : ℕ) : Type 0 where
+  pub supply_least : ℕ
+  pub return_least : ℕ
+  pub supply_is : side_least net Supply supply ≡ Some supply_least
+  pub return_is : side_least net Return (budget_of net fan supply Return) ≡ Some return_least
+  pub supply_le : supply_least ≤ side_price net d Supply
+  pub return_le : return_least ≤ side_price net d Return
+
+pub both_sides : (cost : ℕ) (supply back : Option ℕ) (s r : ℕ) → supply ≡ Some s → back ≡ Some r
+    → both_of (Some cost) (both_of supply back) ≡ Some (cost + (s + r))
+both_sides cost supply back s r one other =
+    ap (λ o. both_of (Some cost) (both_of o back)) one ∙ ap (λ o. both_of (Some cost) (both_of (Some s) o)) other
+
+module _ (net : Network) (tree : IsTree net.tree) where
+  -- the least of a side is at most what a design pays that keeps the budget
+  pub side_least-bound : (d : Design) (x : Side) (b : ℕ) → IsSizing (ducts_of net) (Fan x) b (sizes_in d)
+      → (v : ℕ) × (side_least net x b ≡ Some v) × (v ≤ side_price net d x)
+  side_least-bound d x b sizing =
+      let bound = side-bound (ducts_of net) (next_in-falls net.tree tree) x (least_in net) (least_in-roots net tree) b (sizes_in d) sizing in
+      (bound.y, sym (side_sum-least net x b) ∙ bound.is, bound.le)
+
+  pub cost_bound : (d : Design) → Meets net d → IsCostBound net d d.fan (worst net d Supply)
+  cost_bound d meets =
+      let covered = meets.pressure in
+      let supply = side_least-bound d Supply (worst net d Supply)
+      (sizing-from_meets net tree d meets Supply (worst net d Supply) (omega arith)) in
+      let back = side_least-bound d Return (budget_of net d.fan (worst net d Supply) Return)
+      (sizing-from_meets net tree d meets Return (budget_of net d.fan (worst net d Supply) Return) (omega arith)) in
+      record {
+        supply_least = supply.0;
+        return_least = back.0;
+        supply_is = supply.1;
+        return_is = back.1;
+        supply_le = supply.2;
+        return_le = back.2;
+      }
+
+  pub offered : (d : Design) → Meets net d → IsOffered net d.fan (worst net d Supply)
+  offered d meets = let covered = meets.pressure in record { in_range = meets.fits.fan; within = omega arith }
+
+  -- without a least cost no design meets the rules
+  pub none_meets : ((fan supply : ℕ) → IsOffered net fan supply → cost_at net fan supply ≡ None) → NoneMeets net
+  none_meets none d meets =
+      let bound = cost_bound d meets in
+      let at = both_sides (fan_at net d.fan).cost _ _ _ _ bound.supply_is bound.return_is in
+      let both = sym (none d.fan (worst net d Supply) (offered d meets)) ∙ at in
+      cc both

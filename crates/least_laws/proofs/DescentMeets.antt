@@ -1,0 +1,74 @@
+-- The design taken from the fan outwards keeps both budgets, meets the rules, and has the least cost.
+use Rattle.std.proofs.Common.{◌≡◌, ◌≢◌, ℕ, zero, suc, ◌+◌, ◌-◌, ◌<◌, ◌≤◌, ◌⊎◌, inl, inr, true, false, refl, arith, ap, sym, ◌∙◌, subst, Option, Some, None, List, [], ◌∷◌, length}
+use Rattle.std.proofs.lemmas.Bool.{cases_order}
+use Rattle.std.proofs.lemmas.Bool.Decides.{leb_tells}
+use Rattle.std.specs.Prelude.{IsSome, slice_index, is_some}
+use Rattle.duct_units.specs.declared.side.Side.{Side}
+use Rattle.duct_units.specs.declared.side.Side.TheVariants.{Supply, Return}
+use Rattle.duct_definitions.specs.declared.design.Design.{Design}
+use Rattle.duct_definitions.specs.Tree.{IsTree, section_count, side}
+use Rattle.duct_definitions.specs.Network.{Network, fan_at}
+use Rattle.duct_definitions.specs.Designs.{Fits, Meets, worst, cost}
+use Rattle.duct_definitions.specs.Order.{Earlier, LessOr, Before, IsBest, NoneMeets}
+use Rattle.tree_sums.specs.Route.{Fan, Falls}
+use Rattle.tree_sums.proofs.Places.{same-refl}
+use Rattle.least_laws.specs.Prices.{both_of}
+use Rattle.least_laws.specs.LeastIn.{least_in}
+use Rattle.least_laws.specs.Choosing.{side_least, budget_of, cost_at, IsOffered, IsChosen, IsDescent}
+use Rattle.least_laws.proofs.Ducts.{Ducts, IsSizing, price_sum}
+use Rattle.least_laws.proofs.LeastBelow.{some-same}
+use Rattle.least_laws.proofs.Side.{side_sum, IsSideBound, side-bound, side-tight, side-sizing, side_sum-optimal}
+use Rattle.least_laws.proofs.Descent.{IsBestSizing, first-best, descent-first}
+use Rattle.least_laws.proofs.TreePlaces.{next_in, next_in-falls}
+use Rattle.least_laws.proofs.DuctsOf.{ducts_of}
+use Rattle.least_laws.proofs.SideLeast.{side_sum-least, least_in-sums, least_in-roots}
+use Rattle.least_laws.proofs.DesignSizes.{sizes_in, chosen-pair_of, goes_by-side, cost-sides, sizing-from_meets, worst-le}
+use Rattle.least_laws.proofs.Taken.{left_over, left_over-is, descent-left, descent-first_sizes}
+use Rattle.least_laws.proofs.CostBound.{side_price, both_sides}
+
+module _ (net : Network) (tree : IsTree net.tree) (d : Design) (supply price : ℕ) (chosen : IsChosen net d.fan supply price) (left : ℕ → ℕ) (descent : IsDescent net (budget_of net d.fan supply) left d) where
+  pub best_sizing : IsBestSizing (ducts_of net) (budget_of net d.fan supply) (sizes_in d)
+  best_sizing =
+      first-best (ducts_of net) (next_in-falls net.tree tree) (least_in net) (least_in-sums net tree)
+      (budget_of net d.fan supply) (sizes_in d) left
+      (descent-left net tree (budget_of net d.fan supply) left d descent)
+      (descent-first_sizes net tree (budget_of net d.fan supply) left d descent)
+
+  pub sizing : (x : Side) → IsSizing (ducts_of net) (Fan x) (budget_of net d.fan supply x) (sizes_in d)
+  sizing x =
+      side-sizing (ducts_of net) (next_in-falls net.tree tree) x (least_in net) (least_in-roots net tree)
+      (budget_of net d.fan supply x) (sizes_in d) (best_sizing x)
+
+  pub side_least-is : (x : Side) → side_least net x (budget_of net d.fan supply x) ≡ Some (side_price net d x)
+  side_least-is x =
+      sym (side_sum-least net x (budget_of net d.fan supply x))
+      ∙ side_sum-optimal (ducts_of net) (next_in-falls net.tree tree) x (least_in net) (least_in-roots net tree)
+      (budget_of net d.fan supply x) (sizes_in d) (best_sizing x)
+
+  pub worst-budget : (x : Side) → worst net d x ≤ budget_of net d.fan supply x
+  worst-budget x = worst-le net tree d x (budget_of net d.fan supply x) (sizing x)
+
+  pub descent_meets : Meets net d
+  descent_meets =
+      let within = chosen.offered.within in
+      let one = worst-budget Supply in
+      let other = worst-budget Return in
+      record {
+        fits = record {
+          fan = chosen.offered.in_range;
+          sizes = descent.sizes;
+          each = λ s less. (descent.attains s less).in_range;
+        };
+        pairs = λ s less.
+            let x = side net.tree s in
+            let pair = (sizing x).there s less (goes_by-side net.tree tree x s ∙ same-refl (Fan x)) in
+            ap is_some (sym (chosen-pair_of net d s) ∙ pair.1);
+        pressure = omega arith;
+      }
+
+  pub descent_cost : cost net d ≡ price
+  descent_cost =
+      let at = both_sides (fan_at net d.fan).cost _ _ _ _ (side_least-is Supply) (side_least-is Return) in
+      let same = some-same _ _ (sym chosen.reached ∙ at) in
+      let whole = cost-sides net tree d in
+      omega arith
