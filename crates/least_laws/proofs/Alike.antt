@@ -46,7 +46,8 @@ module _ (net other : Network) (s : ℕ) (agree : AgreeBeyond net other s) where
       sym (ap (λ pairs. unwrap_or (slice_get pairs (k * columns other t + g)) None) same
       ∙ ap (λ n. unwrap_or (slice_get (pairs_of net t) (k * n + g)) None) (columns-agree t))
 
-  pub least_agrees : IsTree net.tree → (g budget : ℕ) (o : Option ℕ) → IsLeast net s g budget o → IsLeast other s g budget o
+  pub least_agrees : IsTree net.tree → (g budget : ℕ) (o : Option ℕ) → IsLeast net s g budget o
+      → IsLeast other s g budget o
   least_agrees tree g budget o least =
       least-from_sum other (subst IsTree (sym agree.tree) tree) s g budget o
       (subst (λ ducts. IsLeastSum ducts s g budget o) ducts-agree

@@ -24,7 +24,8 @@ both_of-there (Some x) None some = absurd (cc some)
 both_of-there (Some x) (Some y) some = (refl, refl)
 
 -- where a sum is there, each of its prices is
-pub sum_of-there : (price : ℕ → Option ℕ) (x : ℕ) (xs : List ℕ) → IsSome (sum_of price xs) → Among x xs → IsSome (price x)
+pub sum_of-there : (price : ℕ → Option ℕ) (x : ℕ) (xs : List ℕ) → IsSome (sum_of price xs) → Among x xs
+    → IsSome (price x)
 sum_of-there price x [] some among = absurd among
 sum_of-there price x (y ∷ ys) some (inl same) =
     ap (λ z. is_some (price z)) same ∙ (both_of-there (price y) (sum_of price ys) some).0
@@ -46,8 +47,8 @@ Among-roots t x r within root on_side =
     (and_from _ _ (lt-ltb r (section_count t) within) (ap is_none root)))
 
 module _ (net : Network) (tree : IsTree net.tree) where
-  pub size_attains : (s g budget : ℕ) → s < section_count net.tree → g < columns net s → IsSome (least_in net s g budget)
-      → (k : ℕ) × Attains net s g budget k
+  pub size_attains : (s g budget : ℕ) → s < section_count net.tree → g < columns net s
+      → IsSome (least_in net s g budget) → (k : ℕ) × Attains net s g budget k
   size_attains s g budget within beside there =
       let some = some-value (least_in net s g budget) there in
       let least = least_below-some (least_with net (least_in net) s g budget) (size_count net s) some.0

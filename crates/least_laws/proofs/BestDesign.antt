@@ -28,7 +28,18 @@ use Rattle.least_laws.proofs.Comparing.{le_then, Earlier-from}
 use Rattle.least_laws.proofs.CostBound.{side_price, IsCostBound, both_sides, side_least-bound, cost_bound, offered}
 use Rattle.least_laws.proofs.DescentMeets.{side_least-is, worst-budget, descent_meets, descent_cost}
 
-module _ (net : Network) (tree : IsTree net.tree) (d : Design) (supply price : ℕ) (chosen : IsChosen net d.fan supply price) (left : ℕ → ℕ) (descent : IsDescent net (budget_of net d.fan supply) left d) where
+module _ (net : Network) (tree : IsTree net.tree) (d : Design) (supply price : ℕ)
+    (chosen : IsChosen net d.fan supply price)
+    (left : ℕ → ℕ) (descent : IsDescent net (budget_of net d.fan supply) left d) where
+  least_is : (x : Side) → side_least net x (budget_of net d.fan supply x) ≡ Some (side_price net d x)
+  least_is = side_least-is net tree d supply price chosen left descent
+
+  kept : worst net d Supply ≤ supply
+  kept = worst-budget net tree d supply price chosen left descent Supply
+
+  cost_is : cost net d ≡ price
+  cost_is = descent_cost net tree d supply price chosen left descent
+
   module _ (e : Design) (meets : Meets net e) where
     -- the other design's fan and worst supply loss cost at most what the design costs
     other_at : (c : ℕ) × (cost_at net e.fan (worst net e Supply) ≡ Some c) × (c ≤ cost net e)
@@ -47,7 +58,7 @@ module _ (net : Network) (tree : IsTree net.tree) (d : Design) (supply price : �
         let at = other_at in
         let most = at.2 in
         let least = chosen.least e.fan (worst net e Supply) at.0 (offered net tree e meets) at.1 in
-        let same = descent_cost net tree d supply price chosen left descent in
+        let same = cost_is in
         omega arith
 
     -- at equal cost the other design's fan and worst supply loss have the least cost too
@@ -56,7 +67,7 @@ module _ (net : Network) (tree : IsTree net.tree) (d : Design) (supply price : �
         let at = other_at in
         let most = at.2 in
         let least = chosen.least e.fan (worst net e Supply) at.0 (offered net tree e meets) at.1 in
-        let same = descent_cost net tree d supply price chosen left descent in
+        let same = cost_is in
         at.1 ∙ ap Some (let tight : at.0 ≡ price = omega arith in tight)
 
     fan_le : cost net d ≡ cost net e → d.fan ≤ e.fan
@@ -76,13 +87,15 @@ module _ (net : Network) (tree : IsTree net.tree) (d : Design) (supply price : �
               (ap (λ i. cost_at net i (worst net e Supply)) fan ∙ other_price equal))
         ]
 
-    module _ (equal : cost net d ≡ cost net e) (fan : d.fan ≡ e.fan) (same_worst : worst net d Supply ≡ worst net e Supply) where
+    module _ (equal : cost net d ≡ cost net e) (fan : d.fan ≡ e.fan)
+        (same_worst : worst net d Supply ≡ worst net e Supply) where
       other_worst : (x : Side) → worst net e x ≤ budget_of net d.fan supply x
-      other_worst Supply = let within = worst-budget net tree d supply price chosen left descent Supply in omega arith
+      other_worst Supply = let within = kept in omega arith
       other_worst Return =
           let covered = meets.pressure in
           let least = supply_le equal fan in
-          let pressure : (fan_at net d.fan).pressure ≡ (fan_at net e.fan).pressure = ap (λ i. (fan_at net i).pressure) fan in
+          let pressure : (fan_at net d.fan).pressure ≡ (fan_at net e.fan).pressure =
+          ap (λ i. (fan_at net i).pressure) fan in
           omega arith
 
       other_sizing : (x : Side) → IsSizing (ducts_of net) (Fan x) (budget_of net d.fan supply x) (sizes_in e)
@@ -92,7 +105,7 @@ module _ (net : Network) (tree : IsTree net.tree) (d : Design) (supply price : �
       other_ge x =
           let bound = side_least-bound net tree e x (budget_of net d.fan supply x) (other_sizing x) in
           let most = bound.2 in
-          let same = some-same _ _ (sym bound.1 ∙ side_least-is net tree d supply price chosen left descent x) in
+          let same = some-same _ _ (sym bound.1 ∙ least_is x) in
           omega arith
 
       other_le : (x : Side) → side_price net e x ≤ side_price net d x
@@ -108,7 +121,7 @@ module _ (net : Network) (tree : IsTree net.tree) (d : Design) (supply price : �
       other_best x =
           side-tight (ducts_of net) (next_in-falls net.tree tree) x (least_in net) (least_in-roots net tree)
           (budget_of net d.fan supply x) (sizes_in e) (side_price net d x) (other_sizing x)
-          (side_sum-least net x (budget_of net d.fan supply x) ∙ side_least-is net tree d supply price chosen left descent x) (other_le x)
+          (side_sum-least net x (budget_of net d.fan supply x) ∙ least_is x) (other_le x)
 
       sizes_earlier : (e.sizes ≡ d.sizes) ⊎ Earlier d.sizes e.sizes
       sizes_earlier =
@@ -127,10 +140,11 @@ module _ (net : Network) (tree : IsTree net.tree) (d : Design) (supply price : �
         le_then (cost net d) (cost net e) _ _ cost_le λ equal.
         le_then d.fan e.fan _ _ (fan_le equal) λ fan.
         le_then (worst net d Supply) (worst net e Supply) _ _
-        (let within = worst-budget net tree d supply price chosen left descent Supply in let least = supply_le equal fan in omega arith) λ same_worst.
+        (let within = kept in let least = supply_le equal fan in omega arith) λ same_worst.
         elim (sizes_earlier equal fan same_worst) [
           | inl sizes ↦ inl
-              (ap (λ i. record { fan = i; sizes = e.sizes }) (sym fan) ∙ ap (λ ks. record { fan = d.fan; sizes = ks }) sizes)
+              (ap (λ i. record { fan = i; sizes = e.sizes }) (sym fan)
+              ∙ ap (λ ks. record { fan = d.fan; sizes = ks }) sizes)
           | inr before ↦ inr before
         ]
 

@@ -22,12 +22,14 @@ choice-more net s g few many sizes less choice = record {
   each = choice.each;
   pairs = choice.pairs;
   losses = All-from_among (λ leaf. loss_to net sizes s leaf ≤ many) (leaves_beyond net.tree s) (λ leaf among.
-      let within = All-among (λ leaf. loss_to net sizes s leaf ≤ few) leaf (leaves_beyond net.tree s) choice.losses among in
+      let within =
+      All-among (λ leaf. loss_to net sizes s leaf ≤ few) leaf (leaves_beyond net.tree s) choice.losses among in
       omega arith);
 }
 
 pub least_never_rises : (net : Network) (s g few many : ℕ) (dear cheap : Option ℕ) → few ≤ many
-    → IsLeast net s g few dear → IsLeast net s g many cheap → IfSome dear (λ more. IsSomeAnd cheap (λ less. less ≤ more))
+    → IsLeast net s g few dear → IsLeast net s g many cheap
+    → IfSome dear (λ more. IsSomeAnd cheap (λ less. less ≤ more))
 least_never_rises net s g few many None cheap within one other = tt
 least_never_rises net s g few many (Some more) None within one other =
     absurd (other one.reached.0 (choice-more net s g few many one.reached.0 within one.reached.1.0))
@@ -45,7 +47,8 @@ length-filter-le test (x ∷ xs) =
       | false ↦ omega arith
     ]
 
-unwrap-bounded : (pairs : List (Option Pair)) (i : ℕ) → All IsBounded pairs → IsBounded (unwrap_or (slice_get pairs i) None)
+unwrap-bounded : (pairs : List (Option Pair)) (i : ℕ) → All IsBounded pairs
+    → IsBounded (unwrap_or (slice_get pairs i) None)
 unwrap-bounded pairs i all =
     elim (slice_get pairs i) as (λ o. slice_get pairs i ≡ o → IsBounded (unwrap_or o None)) [
       | None ↦ λ _. tt

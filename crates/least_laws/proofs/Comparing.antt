@@ -20,7 +20,8 @@ agree_more x y xs ys i equal agree (suc j) less = agree j (omega arith)
 
 -- where at the first difference the first list has the smaller number, the lists are one or the first is earlier
 pub Earlier-from : (xs ys : List ℕ) → length xs ≡ length ys
-    → ((i : ℕ) → i < length xs → ((j : ℕ) → j < i → slice_index xs j ≡ slice_index ys j) → slice_index xs i ≤ slice_index ys i)
+    → ((i : ℕ) → i < length xs → ((j : ℕ) → j < i → slice_index xs j ≡ slice_index ys j)
+        → slice_index xs i ≤ slice_index ys i)
     → (ys ≡ xs) ⊎ Earlier xs ys
 Earlier-from [] [] same first = inl refl
 Earlier-from [] (y ∷ ys) same first = absurd (omega arith)

@@ -48,7 +48,8 @@ module _ (net : Network) (tree : IsTree net.tree) where
   pub side_least-bound : (d : Design) (x : Side) (b : ℕ) → IsSizing (ducts_of net) (Fan x) b (sizes_in d)
       → (v : ℕ) × (side_least net x b ≡ Some v) × (v ≤ side_price net d x)
   side_least-bound d x b sizing =
-      let bound = side-bound (ducts_of net) (next_in-falls net.tree tree) x (least_in net) (least_in-roots net tree) b (sizes_in d) sizing in
+      let bound = side-bound (ducts_of net) (next_in-falls net.tree tree) x (least_in net) (least_in-roots net tree)
+      b (sizes_in d) sizing in
       (bound.y, sym (side_sum-least net x b) ∙ bound.is, bound.le)
 
   pub cost_bound : (d : Design) → Meets net d → IsCostBound net d d.fan (worst net d Supply)

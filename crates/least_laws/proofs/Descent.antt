@@ -22,7 +22,8 @@ pub record TakesFirst (net : Ducts) (leasts : ℕ → ℕ → ℕ → Option ℕ
 abbrev pub IsBestSizing : Ducts → (Side → ℕ) → (ℕ → ℕ) → Type 0
 IsBestSizing net budget f = (x : Side) (r : ℕ) → r < net.count → net.next r ≡ Fan x → IsOptimal net r 0 (budget x) f
 
-module _ (net : Ducts) (falls : Falls net.next) (leasts : ℕ → ℕ → ℕ → Option ℕ) (known : (s : ℕ) → s < net.count → AreLeastSums net s leasts) (budget : Side → ℕ) where
+module _ (net : Ducts) (falls : Falls net.next) (leasts : ℕ → ℕ → ℕ → Option ℕ)
+    (known : (s : ℕ) → s < net.count → AreLeastSums net s leasts) (budget : Side → ℕ) where
   beside-fan : (f : ℕ → ℕ) (t : ℕ) (x : Side) → net.next t ≡ Fan x → size_at f (net.next t) ≡ 0
   beside-fan f t x is = ap (size_at f) is
 
@@ -42,7 +43,8 @@ module _ (net : Ducts) (falls : Falls net.next) (leasts : ℕ → ℕ → ℕ �
             (subst (λ r. IsOptimal net c (size_at f (net.next c)) r f) (leaves.more c t less child) optimal);
       })
 
-  pub first-best : (f left : ℕ → ℕ) → IsLeft net budget f left → TakesFirst net leasts left f → IsBestSizing net budget f
+  pub first-best : (f left : ℕ → ℕ) → IsLeft net budget f left → TakesFirst net leasts left f
+      → IsBestSizing net budget f
   first-best f left leaves takes x r less root =
       subst (λ g. IsOptimal net r g (budget x) f) (beside-fan f r x root)
       (subst (λ b. IsOptimal net r (size_at f (net.next r)) b f) (leaves.fan r x less root)

@@ -26,7 +26,9 @@ use Rattle.least_laws.proofs.DesignSizes.{sizes_in, chosen-pair_of, goes_by-side
 use Rattle.least_laws.proofs.Taken.{left_over, left_over-is, descent-left, descent-first_sizes}
 use Rattle.least_laws.proofs.CostBound.{side_price, both_sides}
 
-module _ (net : Network) (tree : IsTree net.tree) (d : Design) (supply price : ℕ) (chosen : IsChosen net d.fan supply price) (left : ℕ → ℕ) (descent : IsDescent net (budget_of net d.fan supply) left d) where
+module _ (net : Network) (tree : IsTree net.tree) (d : Design) (supply price : ℕ)
+    (chosen : IsChosen net d.fan supply price)
+    (left : ℕ → ℕ) (descent : IsDescent net (budget_of net d.fan supply) left d) where
   pub best_sizing : IsBestSizing (ducts_of net) (budget_of net d.fan supply) (sizes_in d)
   best_sizing =
       first-best (ducts_of net) (next_in-falls net.tree tree) (least_in net) (least_in-sums net tree)

@@ -92,7 +92,8 @@ sum_by-range w (suc n) =
     ap (sum_by w) (range_with_len-last 0 n)
     ∙ sum_by-append w (range_with_len 0 n) ((0 + n) ∷ [])
     ∙ ap (λ k. sum_by w (range_with_len 0 n) + sum_by w (k ∷ [])) (let same : 0 + n ≡ n = omega arith in same)
-    ∙ ap (λ z. sum_by w (range_with_len 0 n) + z) (sum_by-cons w n [] ∙ (let alone : w n + 0 ≡ w n = omega arith in alone))
+    ∙ ap (λ z. sum_by w (range_with_len 0 n) + z)
+    (sum_by-cons w n [] ∙ (let alone : w n + 0 ≡ w n = omega arith in alone))
     ∙ ap (λ z. z + w n) before
 
 -- a greatest value is at most what bounds each
@@ -147,7 +148,8 @@ module _ (net : Network) (tree : IsTree net.tree) (d : Design) where
   pub worst-le : (x : Side) (b : ℕ) → IsSizing (ducts_of net) (Fan x) b (sizes_in d) → worst net d x ≤ b
   worst-le x b sizing =
       max-le (path_loss net d) 0 b (leaves net.tree x) (omega arith) (λ leaf among.
-      let found = Among-filtered (λ s. same_side (side net.tree s) x && is_leaf net.tree s) leaf (sections net.tree) among in
+      let found =
+      Among-filtered (λ s. same_side (side net.tree s) x && is_leaf net.tree s) leaf (sections net.tree) among in
       let (on_side, is) = and_parts (same_side (side net.tree leaf) x) (is_leaf net.tree leaf) found.1 in
       let within = is_within net.tree leaf is in
       let by : goes_by (next_in net.tree) (Fan x) leaf ≡ true =

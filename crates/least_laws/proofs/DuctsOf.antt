@@ -67,7 +67,8 @@ module _ (net : Network) (tree : IsTree net.tree) where
   pub price_beyond-sum : (f : ℕ → ℕ) (s : ℕ) → price_beyond net f s ≡ price_sum (ducts_of net) f (At s)
   price_beyond-sum f s =
       sum_by-filter (λ t. price_of (pair_in net f t)) (passes net.tree s) (section_count net.tree)
-      ∙ total-cong _ (λ t. gated (goes_by (next_in net.tree) (At s) t) (price_of (pair_in net f t))) (section_count net.tree)
+      ∙ total-cong _ (λ t. gated (goes_by (next_in net.tree) (At s) t) (price_of (pair_in net f t)))
+      (section_count net.tree)
       (λ t less. ap (λ b. gated b (price_of (pair_in net f t))) (passes-goes_by net.tree tree s t))
       ∙ ap (λ w. beyond (next_in net.tree) w (section_count net.tree) (At s)) (sym (price-pair_in net f))
 
@@ -78,7 +79,8 @@ module _ (net : Network) (tree : IsTree net.tree) where
     record {
       in_range = All-beyond net.tree tree s (λ t. f t < size_count net t) choice.each;
       there = λ t less by.
-          let pair = some-there (pair_in net f t) (All-beyond net.tree tree s (λ t. IsSome (pair_in net f t)) choice.pairs t less by) in
+          let pair = some-there (pair_in net f t)
+          (All-beyond net.tree tree s (λ t. IsSome (pair_in net f t)) choice.pairs t less by) in
           (pair.0, chosen-pair_in net f t ∙ pair.1);
       within = λ t less end by.
           let most = All-leaves net.tree tree s (λ leaf. loss_to net f s leaf ≤ b) choice.losses t less end by in

@@ -22,7 +22,8 @@ find_child next s (suc m) =
         | inr none ↦ inr (λ c less is. elim (eqb_tells c m) [
           | inl equal ↦
               let both : false ≡ true =
-              sym apart ∙ ap (λ d. same (next d) (At s)) (sym equal.1) ∙ ap (λ o. same o (At s)) is ∙ same-refl (At s) in
+              sym apart ∙ ap (λ d. same (next d) (At s)) (sym equal.1)
+              ∙ ap (λ o. same o (At s)) is ∙ same-refl (At s) in
               cc both
           | inr other ↦ none c (let differ = other.1 in omega arith) is
         ])

@@ -36,8 +36,8 @@ least_in-is net tree s g budget within beside =
     least_within-is net tree (section_count net.tree) s g budget within (omega arith) beside
 
 -- two leasts are equal
-pub least_is_one : (net : Network) (s g budget : ℕ) (x y : Option ℕ) → IsLeast net s g budget x → IsLeast net s g budget y
-    → x ≡ y
+pub least_is_one : (net : Network) (s g budget : ℕ) (x y : Option ℕ)
+    → IsLeast net s g budget x → IsLeast net s g budget y → x ≡ y
 least_is_one net s g budget None None one other = refl
 least_is_one net s g budget None (Some v) one other = absurd (one other.reached.0 other.reached.1.0)
 least_is_one net s g budget (Some v) None one other = absurd (other one.reached.0 one.reached.1.0)
@@ -61,8 +61,8 @@ least_in-children net tree s c k rest less child in_range =
     least_in-is net tree c k rest less (omega arith)
 
 -- one step of the recursion
-pub least_in-step : (net : Network) → IsTree net.tree → (s g budget : ℕ) → s < section_count net.tree → g < columns net s
-    → least_in net s g budget ≡ least_from net (least_in net) s g budget
+pub least_in-step : (net : Network) → IsTree net.tree → (s g budget : ℕ) → s < section_count net.tree
+    → g < columns net s → least_in net s g budget ≡ least_from net (least_in net) s g budget
 least_in-step net tree s g budget within beside =
     sym (least_in-unique net tree s g budget (least_from net (least_in net) s g budget) within beside
     (least_of_section net tree (least_in net) s g budget within beside (least_in-children net tree s)))

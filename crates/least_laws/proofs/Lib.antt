@@ -25,3 +25,4 @@ pub mod CostBound
 pub mod DescentMeets
 pub mod BestDesign
 pub mod Attained
+pub mod Loops

@@ -33,7 +33,8 @@ pub record Divides (net : Ducts) (leasts : ℕ → ℕ → ℕ → Option ℕ) (
   pub attains : AttainsSum net leasts s g b (f s)
   pub child : (c : ℕ) → c < net.count → net.next c ≡ At s → IsOptimal net c (f s) (b - loss net f s) f
 
-module _ (net : Ducts) (falls : Falls net.next) (leasts : ℕ → ℕ → ℕ → Option ℕ) (s : ℕ) (within : s < net.count) (known : AreLeastSums net s leasts) (g b : ℕ) (fan : IsBeside net s g) (f : ℕ → ℕ) where
+module _ (net : Ducts) (falls : Falls net.next) (leasts : ℕ → ℕ → ℕ → Option ℕ) (s : ℕ) (within : s < net.count)
+    (known : AreLeastSums net s leasts) (g b : ℕ) (fan : IsBeside net s g) (f : ℕ → ℕ) where
   -- the children's leasts add to what f costs beyond them, so each is what f costs beyond that child
   children-tight : (r : ℕ) → f s < net.sizes s
       → ((c : ℕ) → c < net.count → net.next c ≡ At s → IsSizing net (At c) r f)
@@ -81,8 +82,10 @@ module _ (net : Ducts) (falls : Falls net.next) (leasts : ℕ → ℕ → ℕ �
       let made_of = m.sum in
       let sum_is = sum.sum in
       let sizings : (c : ℕ) → c < net.count → net.next c ≡ At s → IsSizing net (At c) r f =
-      λ c _ child. subst (λ q. IsSizing net (At c) q f) (ap (λ q. b - q) lost) (sizing-child net falls s c b f child optimal.1) in
-      let least : (c : ℕ) → c < net.count → net.next c ≡ At s → IsLeastSum net c (f s) r (Some (value (leasts c (f s) r))) =
+      λ c _ child.
+      subst (λ q. IsSizing net (At c) q f) (ap (λ q. b - q) lost) (sizing-child net falls s c b f child optimal.1) in
+      let least : (c : ℕ) → c < net.count → net.next c ≡ At s
+          → IsLeastSum net c (f s) r (Some (value (leasts c (f s) r))) =
       λ c less child.
       subst (IsLeastSum net c (f s) r)
       (sum.there c less (ap (λ o. same o (At s)) child ∙ same-refl (At s))) (known c (f s) r less child in_range) in

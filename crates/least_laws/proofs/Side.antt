@@ -57,7 +57,8 @@ module _ (net : Ducts) (falls : Falls net.next) (x : Side) where
 
     roots-le : IsSizing net (Fan x) b f
         → (r : ℕ) → r < net.count
-        → gated (same (net.next r) (Fan x)) (value (leasts r 0 b)) ≤ gated (same (net.next r) (Fan x)) (price_sum net f (At r))
+        → gated (same (net.next r) (Fan x)) (value (leasts r 0 b))
+        ≤ gated (same (net.next r) (Fan x)) (price_sum net f (At r))
     roots-le sizing r less =
         elim (same (net.next r) (Fan x)) as
         (λ q. same (net.next r) (Fan x) ≡ q → gated q (value (leasts r 0 b)) ≤ gated q (price_sum net f (At r))) [
@@ -97,7 +98,8 @@ module _ (net : Ducts) (falls : Falls net.next) (x : Side) where
         let whole = beyond-fan net.next falls (price net f) net.count x in
         let beside : same (net.next r) (Fan x) ≡ true = ap (λ o. same o (Fan x)) root ∙ same-refl (Fan x) in
         let equal = total-tight (λ r. gated (same (net.next r) (Fan x)) (value (h r)))
-        (λ r. gated (same (net.next r) (Fan x)) (price_sum net f (At r))) net.count (roots-le sizing) (omega arith) r less in
+        (λ r. gated (same (net.next r) (Fan x)) (price_sum net f (At r))) net.count (roots-le sizing)
+        (omega arith) r less in
         let at : value (h r) ≡ price_sum net f (At r) =
         sym (ap (λ q. gated q (value (h r))) beside) ∙ equal ∙ ap (λ q. gated q (price_sum net f (At r))) beside in (
           ap (size_at f) root,

@@ -15,7 +15,8 @@ use Rattle.least_laws.proofs.SumOf.{joined-sum_of}
 use Rattle.least_laws.proofs.DuctsOf.{ducts_of, sum-from_least, sums-from_leasts}
 use Rattle.least_laws.proofs.Leasts.{least_in-is, least_in-children}
 
-pub side_sum-least : (net : Network) (x : Side) (b : ℕ) → side_sum (ducts_of net) (least_in net) x b ≡ side_least net x b
+pub side_sum-least : (net : Network) (x : Side) (b : ℕ)
+    → side_sum (ducts_of net) (least_in net) x b ≡ side_least net x b
 side_sum-least net x b =
     joined-sum_of (next_in net.tree) (Fan x) (λ r. least_in net r 0 b) (section_count net.tree)
     ∙ ap (sum_of (λ r. least_in net r 0 b)) (sym (roots-same net.tree x))

@@ -29,7 +29,8 @@ pub sum_of-append : (price : ℕ → Option ℕ) (xs ys : List ℕ)
     → sum_of price (xs ++ ys) ≡ both_of (sum_of price xs) (sum_of price ys)
 sum_of-append price [] ys = sym (zero-both_of (sum_of price ys))
 sum_of-append price (x ∷ xs) ys =
-    ap (both_of (price x)) (sum_of-append price xs ys) ∙ sym (both_of-again (price x) (sum_of price xs) (sum_of price ys))
+    ap (both_of (price x)) (sum_of-append price xs ys)
+    ∙ sym (both_of-again (price x) (sum_of price xs) (sum_of price ys))
 
 -- one price more at the end, as a loop adds it
 pub sum_of-last : (price : ℕ → Option ℕ) (xs : List ℕ) (x : ℕ)
@@ -37,7 +38,8 @@ pub sum_of-last : (price : ℕ → Option ℕ) (xs : List ℕ) (x : ℕ)
 sum_of-last price xs x = sum_of-append price xs (x ∷ []) ∙ ap (both_of (sum_of price xs)) (both_of-zero (price x))
 
 -- one number more, as a loop counts it
-pub least_below-next : (price : ℕ → Option ℕ) (n : ℕ) → least_below price (n + 1) ≡ lesser (least_below price n) (price n)
+pub least_below-next : (price : ℕ → Option ℕ) (n : ℕ)
+    → least_below price (n + 1) ≡ lesser (least_below price n) (price n)
 least_below-next price n = ap (least_below price) (let same : n + 1 ≡ suc n = omega arith in same)
 
 -- the sum over the sections next to a place, as a list

@@ -83,7 +83,8 @@ module _ (net : Network) (tree : IsTree net.tree) where
         let here : left_over budget d s ≡ budget (side net.tree n) - path_loss net d n =
         ap (λ o. budget (side net.tree s) - before d o) next
         ∙ ap (λ x. budget x - path_loss net d n) (sym (neighbour_side net.tree s n tree less next)) in
-        let lost : loss (ducts_of net) (sizes_in d) n ≡ loss_of (pair_of net d n) = ap loss_of (chosen-pair_of net d n) in
+        let lost : loss (ducts_of net) (sizes_in d) n ≡ loss_of (pair_of net d n) =
+        ap loss_of (chosen-pair_of net d n) in
         omega arith;
   }
 
@@ -117,8 +118,8 @@ module _ (net : Network) (tree : IsTree net.tree) where
       attains = λ s less.
           subst (λ g. AttainsSum (ducts_of net) (least_in net) s g (left s) (slice_index d.sizes s))
           (sym (size_at-beside d (side net.tree s) (neighbour net.tree s)))
-          (attains-sum s (size_beside d (neighbour net.tree s)) (left s) (slice_index d.sizes s) less (beside-within s less)
-          (descent.attains s less));
+          (attains-sum s (size_beside d (neighbour net.tree s)) (left s) (slice_index d.sizes s) less
+          (beside-within s less) (descent.attains s less));
       first = λ s k less smaller attains.
           descent.first s k less smaller
           (sum-attains s (size_beside d (neighbour net.tree s)) (left s) k less (beside-within s less)

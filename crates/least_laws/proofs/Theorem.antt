@@ -31,7 +31,8 @@ record IsFrom (net : Ducts) (leasts : ℕ → ℕ → ℕ → Option ℕ) (s k r
   pub is : c < net.count → net.next c ≡ At s
       → (f s ≡ k) × IsSizing net (At c) r f × (price_sum net f (At c) ≡ value (leasts c k r))
 
-module _ (net : Ducts) (falls : Falls net.next) (leasts : ℕ → ℕ → ℕ → Option ℕ) (s : ℕ) (within : s < net.count) (known : AreLeastSums net s leasts) where
+module _ (net : Ducts) (falls : Falls net.next) (leasts : ℕ → ℕ → ℕ → Option ℕ) (s : ℕ) (within : s < net.count)
+    (known : AreLeastSums net s leasts) where
   -- the child's least is there, and the sizing costs no less beyond the child
   bound-child : (f : ℕ → ℕ) (r c : ℕ) → f s < net.sizes s → c < net.count → net.next c ≡ At s → IsSizing net (At c) r f
       → (y : ℕ) × (leasts c (f s) r ≡ Some y) × (y ≤ price_sum net f (At c))
@@ -69,7 +70,8 @@ module _ (net : Ducts) (falls : Falls net.next) (leasts : ℕ → ℕ → ℕ �
             let sum = joined-some net.next (At s) h net.count u some in
             record {
               y = p.price + u;
-              is = with_pair-is (net.pair s (f s) g) p b (λ r. joined net.next (At s) (λ c. leasts c (f s) r) net.count) pair fits
+              is = with_pair-is (net.pair s (f s) g) p b (λ r. joined net.next (At s) (λ c. leasts c (f s) r) net.count)
+                  pair fits
                   ∙ ap (both_of (Some p.price)) some;
               le = (
                   let whole = price_sum-split net falls s f within in
@@ -96,7 +98,8 @@ module _ (net : Ducts) (falls : Falls net.next) (leasts : ℕ → ℕ → ℕ �
         | false ↦ λ apart. record {
           f = λ _. 0;
           is = λ less child.
-              let both : false ≡ true = sym apart ∙ ap (λ o. same o (At s)) child ∙ same-refl (At s) in absurd (cc both);
+              let both : false ≡ true = sym apart ∙ ap (λ o. same o (At s)) child ∙ same-refl (At s) in
+              absurd (cc both);
         }
         | true ↦ λ beside. elim (leb_tells (suc c) net.count) [
           | inr more ↦ record { f = λ _. 0; is = λ less child. let above = more.1 in absurd (omega arith) }

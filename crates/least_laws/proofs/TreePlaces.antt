@@ -154,7 +154,8 @@ pub filter-range_last : (test : ℕ → Bool) (n : ℕ)
 filter-range_last test n =
     ap (filter test) (range_with_len-last 0 n)
     ∙ filter-append test (range_with_len 0 n) ((0 + n) ∷ [])
-    ∙ ap (λ k. filter test (range_with_len 0 n) ++ cond (test k) (k ∷ []) []) (let same : 0 + n ≡ n = omega arith in same)
+    ∙ ap (λ k. filter test (range_with_len 0 n) ++ cond (test k) (k ∷ []) [])
+    (let same : 0 + n ≡ n = omega arith in same)
 
 -- a sum over the numbers that pass a test
 pub sum_by-filter : (w : ℕ → ℕ) (test : ℕ → Bool) (n : ℕ)

@@ -55,7 +55,8 @@ agree-back net q s agree t k g less by = sym (agree t k g less by)
 pub least-moves : (net : Ducts) → Falls net.next → (q : ℕ → ℕ → ℕ → Option Pair) (s g b : ℕ) (o : Option ℕ)
     → AgreeBeyond net q s → IsLeastSum net s g b o → IsLeastSum (with_pairs net q) s g b o
 least-moves net falls q s g b None agree none =
-    λ f beside sizing. none f beside (sizing-moves (with_pairs net q) falls net.pair s b f (agree-back net q s agree) sizing)
+    λ f beside sizing.
+    none f beside (sizing-moves (with_pairs net q) falls net.pair s b f (agree-back net q s agree) sizing)
 least-moves net falls q s g b (Some v) agree least = (
   (
     least.0.0,
@@ -64,7 +65,8 @@ least-moves net falls q s g b (Some v) agree least = (
     sym (price_sum-moves net q s least.0.0 agree) ∙ least.0.3,
   ),
   λ f beside sizing.
-      let most = least.1 f beside (sizing-moves (with_pairs net q) falls net.pair s b f (agree-back net q s agree) sizing) in
+      let most = least.1 f beside
+      (sizing-moves (with_pairs net q) falls net.pair s b f (agree-back net q s agree) sizing) in
       let same = price_sum-moves net q s f agree in
       omega arith,
 )

@@ -34,7 +34,15 @@ made (Some p) b v rest is =
           (λ o. rest (b - p.loss) ≡ o → both_of (Some p.price) o ≡ Some v → IsMade (Some p) b v rest) [
             | None ↦ λ at no_sum. absurd (cc no_sum)
             | Some u ↦ λ at sum_is.
-                record { p = p; u = u; pair = refl; fits = less.1; rest_is = at; sum = some-same (p.price + u) v sum_is }
+                record {
+                  p = p;
+                  u = u;
+                  pair = refl;
+                  fits = less.1;
+                  rest_is = at;
+                  sum = some-same (p.price + u) v sum_is;
+                }
           ] refl both
-      | inr more ↦ let nothing : None ≡ Some v = ap (λ test. cond test whole None) (sym more.0) ∙ is in absurd (cc nothing)
+      | inr more ↦
+          let nothing : None ≡ Some v = ap (λ test. cond test whole None) (sym more.0) ∙ is in absurd (cc nothing)
     ]

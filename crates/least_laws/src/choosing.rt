@@ -10,8 +10,8 @@ ghost use Rattle.duct_definitions.specs.Order.{IsBest, NoneMeets};
 ghost use Rattle.least_laws.specs.LeastIn.{least_in};
 ghost use Rattle.least_laws.specs.Choosing.{side_least, budget_of, cost_at, IsOffered, IsChosen, Attains, IsDescent};
 
-/// With the first fan and then the least supply budget of the least cost, the design that takes the first size with the
-/// least price at each section, from the fan outwards, is the best, and has that cost.
+/// With the first fan and then the least supply budget of the least cost, the design that takes at each section the
+/// first size with the least price, from the fan outwards, is the best, and has that cost.
 pub fn descent_is_best()
     ensures best { (net : Network) → IsTree net.tree → (d : Design) (supply price : ℕ)
         → IsChosen net d.fan supply price → (left : ℕ → ℕ)
@@ -24,11 +24,12 @@ pub fn descent_is_best()
 /// Where no fan with any supply budget has a cost, no design meets the rules.
 pub fn no_cost_no_design()
     ensures { (net : Network) → IsTree net.tree
-        → ((fan supply : ℕ) → IsOffered net fan supply → cost_at net fan supply ≡ None) → NoneMeets net }
+        → ((fan supply : ℕ) → IsOffered net fan supply → cost_at net fan supply ≡ None)
+        → NoneMeets net }
 {}
 
-/// The way outwards goes on: the leasts of a side's roots are there where the side's is; some size attains a least that
-/// is there; its loss is within the budget, and the leasts of the children beside it are there.
+/// The way outwards goes on: the leasts of a side's roots are there where the side's is; some size attains a least
+/// that is there; its loss is within the budget, and the leasts of the children beside it are there.
 pub fn descent_goes_on()
     ensures root { (net : Network) → IsTree net.tree → (x : Side) (budget r : ℕ)
         → IsSome (side_least net x budget) → r < section_count net.tree

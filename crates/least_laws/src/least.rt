@@ -8,7 +8,7 @@ ghost use Rattle.duct_definitions.specs.Least.{IsLeast};
 ghost use Rattle.least_laws.specs.LeastIn.{least_from, least_in, AreLeasts};
 ghost use Rattle.least_laws.specs.SamePairs.{AgreeBeyond};
 
-/// The least of a section is the least over its sizes of what the size costs with the leasts of the children beside it.
+/// The least of a section is the least, over its sizes, of what a size costs with the children's leasts beside it.
 pub fn least_of_section()
     ensures { (net : Network) → IsTree net.tree → (leasts : ℕ → ℕ → ℕ → Option ℕ) (s g budget : ℕ)
         → s < section_count net.tree → g < columns net s → AreLeasts net s leasts

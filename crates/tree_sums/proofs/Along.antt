@@ -1,5 +1,5 @@
 -- Sums along routes, one step at a time; a route to a place goes through one section next to it.
-use Rattle.std.proofs.Common.{◌≡◌, ℕ, ◌+◌, ◌<◌, ◌≤◌, true, false, refl, arith, ap, sym, ◌∙◌, cond, inl, inr, subst}
+use Rattle.std.proofs.Common.{◌≡◌, ℕ, ◌+◌, true, false, refl, arith, ap, sym, ◌∙◌, cond, inl, inr}
 use Rattle.duct_units.specs.declared.side.Side.{Side}
 use Rattle.tree_sums.specs.Route.{Place, Fan, At, same, Falls, goes_by}
 use Rattle.tree_sums.specs.Sums.{along, weight_at}
@@ -13,7 +13,8 @@ module _ (next : ℕ → Place) (falls : Falls next) (w : ℕ → ℕ) where
       rw (route-fan next falls t x is)
       (elim (same o (At t)) as (λ a. w t + cond a 0 (0 + cond (same o (Fan x)) 0 0) ≡ w t) [
         | true ↦ omega arith
-        | false ↦ elim (same o (Fan x)) as (λ b. w t + (0 + cond b 0 0) ≡ w t) [ true ↦ omega arith | false ↦ omega arith ]
+        | false ↦
+            elim (same o (Fan x)) as (λ b. w t + (0 + cond b 0 0) ≡ w t) [ true ↦ omega arith | false ↦ omega arith ]
       ])
 
   along-at : (o : Place) (t p : ℕ) → next t ≡ At p → along next w o t ≡ w t + cond (same o (At t)) 0 (along next w o p)

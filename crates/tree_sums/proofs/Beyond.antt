@@ -1,5 +1,5 @@
 -- What lies beyond a section: the section, or beyond one of its children and no other.
-use Rattle.std.proofs.Common.{◌≡◌, ℕ, ◌+◌, ◌<◌, ◌≤◌, true, false, refl, arith, ap, sym, ◌∙◌, ◌⊎◌, inl, inr, subst}
+use Rattle.std.proofs.Common.{◌≡◌, ℕ, ◌+◌, ◌<◌, true, false, refl, arith, ap, sym, ◌∙◌, ◌⊎◌, inl, inr, subst}
 use Rattle.duct_units.specs.declared.side.Side.{Side}
 use Rattle.tree_sums.specs.Route.{Place, Fan, At, same, Falls, goes_by}
 use Rattle.tree_sums.specs.Sums.{along, beyond}
@@ -32,15 +32,17 @@ module _ (next : ℕ → Place) (falls : Falls next) where
           | inr later ↦ absurd (cc later)
         ]
         | At p ↦ λ is. elim (or-cases (same (At c) (At t)) (goes_by next (At c) p)
-        (sym (goes_by-at next falls t p is (At c)) ∙ by)) [
-          | inl here ↦ inl (at-number c t (same-true (At c) (At t) here))
-          | inr later ↦ inr (p, is, later)
-        ]
+            (sym (goes_by-at next falls t p is (At c)) ∙ by)) [
+              | inl here ↦ inl (at-number c t (same-true (At c) (At t) here))
+              | inr later ↦ inr (p, is, later)
+            ]
       ] refl
 
   -- the route of a section next to o goes by o
   goes_by-next : (o : Place) (c : ℕ) → next c ≡ o → goes_by next o c ≡ true
-  goes_by-next (Fan x) c is = goes_by-fan next falls c x is (Fan x) ∙ or-right (same (Fan x) (At c)) (same (Fan x) (Fan x)) (same-refl (Fan x))
+  goes_by-next (Fan x) c is =
+      goes_by-fan next falls c x is (Fan x)
+      ∙ or-right (same (Fan x) (At c)) (same (Fan x) (Fan x)) (same-refl (Fan x))
   goes_by-next (At s) c is = goes_by-more (At s) c s is (goes_by-self s)
 
   -- and so do the routes that go by such a section
@@ -85,10 +87,10 @@ module _ (next : ℕ → Place) (falls : Falls next) where
       (λ t p is rest by. elim (first-step s t by) [
         | inl here ↦ inl (sym here)
         | inr later ↦ elim
-        (rest (subst (λ u. goes_by next (At s) u ≡ true) (at-number later.0 p (sym later.1 ∙ is)) later.2)) [
-          | inl here ↦ inr (t, is ∙ ap At here, goes_by-self t)
-          | inr child ↦ inr (child.0, child.1, goes_by-more (At child.0) t p is child.2)
-        ]
+            (rest (subst (λ u. goes_by next (At s) u ≡ true) (at-number later.0 p (sym later.1 ∙ is)) later.2)) [
+              | inl here ↦ inr (t, is ∙ ap At here, goes_by-self t)
+              | inr child ↦ inr (child.0, child.1, goes_by-more (At child.0) t p is child.2)
+            ]
       ])
 
   -- a route goes by one child of a section at the most

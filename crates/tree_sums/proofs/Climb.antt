@@ -1,11 +1,11 @@
 -- The route of a section, one step at a time, and the induction from the fan on.
-use Rattle.std.proofs.Common.{◌≡◌, ℕ, zero, suc, ◌<◌, ◌≤◌, refl, arith, ap, sym, ◌∙◌, List, [], ◌∷◌}
+use Rattle.std.proofs.Common.{◌≡◌, ℕ, zero, suc, ◌<◌, ◌≤◌, refl, arith, ap, sym, ◌∙◌, [], ◌∷◌}
 use Rattle.duct_units.specs.declared.side.Side.{Side}
 use Rattle.tree_sums.specs.Route.{Place, Fan, At, Falls, onward, route_within, route}
 
 module _ (next : ℕ → Place) (falls : Falls next) where
-  onward-same : (k j t : ℕ) → ((p : ℕ) → p < t → route_within next k p ≡ route_within next j p) → (o : Place) → next t ≡ o
-      → onward (route_within next k) o ≡ onward (route_within next j) o
+  onward-same : (k j t : ℕ) → ((p : ℕ) → p < t → route_within next k p ≡ route_within next j p)
+      → (o : Place) → next t ≡ o → onward (route_within next k) o ≡ onward (route_within next j) o
   onward-same k j t before (Fan x) is = refl
   onward-same k j t before (At p) is = before p (falls t p is)
 

@@ -1,5 +1,5 @@
 -- What lies beyond a place is the place and what lies beyond the sections next to it.
-use Rattle.std.proofs.Common.{◌≡◌, ℕ, ◌+◌, ◌<◌, ◌≤◌, Bool, true, false, refl, arith, ap, sym, ◌∙◌, ◌≢◌, inl, inr, subst, ◌||◌}
+use Rattle.std.proofs.Common.{◌≡◌, ℕ, ◌+◌, ◌<◌, ◌≤◌, true, false, refl, arith, ap, sym, ◌∙◌, inl, inr, subst, ◌||◌}
 use Rattle.duct_units.specs.declared.side.Side.{Side}
 use Rattle.tree_sums.specs.Route.{Place, Fan, At, same, Falls, goes_by}
 use Rattle.tree_sums.specs.Sums.{total, gated, beyond}
@@ -8,7 +8,8 @@ use Rattle.tree_sums.proofs.Places.{same-refl, same-true, same-sym, same-other, 
 use Rattle.tree_sums.proofs.Totals.{total-one, total-none, total-cong, total-add, total-swap, gated-total}
 
 module _ (next : ℕ → Place) (falls : Falls next) where
-  pub goes_by-fan : (t : ℕ) (x : Side) → next t ≡ Fan x → (o : Place) → goes_by next o t ≡ (same o (At t) || same o (Fan x))
+  pub goes_by-fan : (t : ℕ) (x : Side) → next t ≡ Fan x → (o : Place)
+      → goes_by next o t ≡ (same o (At t) || same o (Fan x))
   goes_by-fan t x is o =
       rw (route-fan next falls t x is) (ap (λ b. same o (At t) || b) (or-false (same o (Fan x))))
 
@@ -23,7 +24,8 @@ module _ (next : ℕ → Place) (falls : Falls next) where
         | inl here ↦ let equal = at-number c t (same-true (At c) (At t) here) in omega arith
         | inr later ↦ cc
       ])
-      (λ t p is rest by. elim (or-cases (same (At c) (At t)) (goes_by next (At c) p) (sym (goes_by-at t p is (At c)) ∙ by)) [
+      (λ t p is rest by. elim (or-cases (same (At c) (At t)) (goes_by next (At c) p)
+      (sym (goes_by-at t p is (At c)) ∙ by)) [
         | inl here ↦ let equal = at-number c t (same-true (At c) (At t) here) in omega arith
         | inr later ↦ let below = rest later in let less = falls t p is in omega arith
       ])
@@ -46,7 +48,8 @@ module _ (next : ℕ → Place) (falls : Falls next) where
   own-next o q n t x within is =
       own o n t x within ∙ ap (λ u. gated (same u o) x) is ∙ ap (λ b. gated b x) (same-sym q o)
 
-  under-fan : (n : ℕ) (o : Place) (x t : ℕ) (y : Side) → t < n → next t ≡ Fan y → under o n t x ≡ gated (same o (Fan y)) x
+  under-fan : (n : ℕ) (o : Place) (x t : ℕ) (y : Side) → t < n → next t ≡ Fan y
+      → under o n t x ≡ gated (same o (Fan y)) x
   under-fan n o x t y within is =
       total-cong (λ c. gated (same (next c) o) (gated (goes_by next (At c) t) x))
       (λ c. gated (same (next c) o) (gated (same (At c) (At t)) x)) n
@@ -58,8 +61,9 @@ module _ (next : ℕ → Place) (falls : Falls next) where
       → under o n t x ≡ gated (same o (At p)) x + under o n p x
   under-at n o x t p within is =
       let split : (c : ℕ) → c < n
-          → gated (same (next c) o) (gated (goes_by next (At c) t) x)
-          ≡ gated (same (next c) o) (gated (same (At c) (At t)) x) + gated (same (next c) o) (gated (goes_by next (At c) p) x) =
+      → gated (same (next c) o) (gated (goes_by next (At c) t) x)
+      ≡ gated (same (next c) o) (gated (same (At c) (At t)) x)
+      + gated (same (next c) o) (gated (goes_by next (At c) p) x) =
       λ c less.
       ap (λ b. gated (same (next c) o) (gated b x)) (goes_by-at t p is (At c))
       ∙ ap (λ z. gated (same (next c) o) z)
@@ -78,7 +82,8 @@ module _ (next : ℕ → Place) (falls : Falls next) where
       omega arith
 
   -- what lies at t and beyond o lies at o, or beyond one section next to o
-  one_child : (n : ℕ) (o : Place) (x t : ℕ) → t < n → gated (goes_by next o t) x ≡ gated (same o (At t)) x + under o n t x
+  one_child : (n : ℕ) (o : Place) (x t : ℕ) → t < n
+      → gated (goes_by next o t) x ≡ gated (same o (At t)) x + under o n t x
   one_child n o x =
       climb next falls (λ t. t < n → gated (goes_by next o t) x ≡ gated (same o (At t)) x + under o n t x)
       (λ t y is within.

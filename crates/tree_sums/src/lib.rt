@@ -9,8 +9,8 @@ ghost use Rattle.duct_units.specs.declared.side.Side.{Side};
 ghost use Rattle.tree_sums.specs.Route.{Place, Fan, At, same, Falls, goes_by};
 ghost use Rattle.tree_sums.specs.Sums.{weight_at, along, total, gated, beyond};
 
-/// The sum beyond a section is its own weight and the sums beyond the sections next to it; beyond a side of the fan it is
-/// the sums beyond the sections there.
+/// The sum beyond a section is its own weight and the sums beyond the sections next to it; beyond a side of the fan
+/// it is the sums beyond the sections there.
 pub fn sums_beyond_split()
     ensures section { (next : ℕ → Place) → Falls next → (weight : ℕ → ℕ) (n s : ℕ) → s < n
         → beyond next weight n (At s)
