@@ -25,11 +25,11 @@ use Rattle.least_laws.proofs.SideLeast.{side_sum-least, least_in-sums, least_in-
 use Rattle.least_laws.proofs.DesignSizes.{sizes_in, chosen-pair_of, goes_by-side, cost-sides, sizing-from_meets, worst-le}
 use Rattle.least_laws.proofs.Taken.{left_over, left_over-is, descent-left, descent-first_sizes}
 use Rattle.least_laws.proofs.Comparing.{le_then, Earlier-from}
-use Rattle.least_laws.proofs.CostBound.{side_price, IsCostBound, both_sides, side_least-bound, cost_bound, offered}
+use Rattle.least_laws.proofs.CostBound.{side_price, least_cost, IsCostBound, both_sides, side_least-bound, cost_bound, offered}
 use Rattle.least_laws.proofs.DescentMeets.{side_least-is, worst-budget, descent_meets, descent_cost}
 
 module _ (net : Network) (tree : IsTree net.tree) (d : Design) (supply price : ℕ)
-    (chosen : IsChosen net d.fan supply price)
+    (chosen : IsChosen net (side_least net Supply) (side_least net Return) d.fan supply price)
     (left : ℕ → ℕ) (descent : IsDescent net (budget_of net d.fan supply) left d) where
   least_is : (x : Side) → side_least net x (budget_of net d.fan supply x) ≡ Some (side_price net d x)
   least_is = side_least-is net tree d supply price chosen left descent
@@ -42,7 +42,7 @@ module _ (net : Network) (tree : IsTree net.tree) (d : Design) (supply price : �
 
   module _ (e : Design) (meets : Meets net e) where
     -- the other design's fan and worst supply loss cost at most what the design costs
-    other_at : (c : ℕ) × (cost_at net e.fan (worst net e Supply) ≡ Some c) × (c ≤ cost net e)
+    other_at : (c : ℕ) × (least_cost net e.fan (worst net e Supply) ≡ Some c) × (c ≤ cost net e)
     other_at =
         let bound = cost_bound net tree e meets in
         let one = bound.supply_le in
@@ -62,7 +62,7 @@ module _ (net : Network) (tree : IsTree net.tree) (d : Design) (supply price : �
         omega arith
 
     -- at equal cost the other design's fan and worst supply loss have the least cost too
-    other_price : cost net d ≡ cost net e → cost_at net e.fan (worst net e Supply) ≡ Some price
+    other_price : cost net d ≡ cost net e → least_cost net e.fan (worst net e Supply) ≡ Some price
     other_price equal =
         let at = other_at in
         let most = at.2 in
@@ -83,8 +83,8 @@ module _ (net : Network) (tree : IsTree net.tree) (d : Design) (supply price : �
         elim (leb_tells supply (worst net e Supply)) [
           | inl less ↦ less.1
           | inr more ↦
-              absurd (chosen.least_supply (worst net e Supply) more.1
-              (ap (λ i. cost_at net i (worst net e Supply)) fan ∙ other_price equal))
+              absurd (chosen.least_budget (worst net e Supply) more.1
+              (ap (λ i. least_cost net i (worst net e Supply)) fan ∙ other_price equal))
         ]
 
     module _ (equal : cost net d ≡ cost net e) (fan : d.fan ≡ e.fan)

@@ -25,6 +25,10 @@ use Rattle.least_laws.proofs.SideLeast.{side_sum-least, least_in-sums, least_in-
 use Rattle.least_laws.proofs.DesignSizes.{sizes_in, chosen-pair_of, goes_by-side, cost-sides, sizing-from_meets, worst-le}
 use Rattle.least_laws.proofs.Taken.{left_over, left_over-is, descent-left, descent-first_sizes}
 
+-- the cost with the fan and the supply budget, from the leasts of both sides
+abbrev pub least_cost : Network → ℕ → ℕ → Option ℕ
+least_cost net fan budget = cost_at net (side_least net Supply) (side_least net Return) fan budget
+
 -- the prices of a side of a design
 abbrev pub side_price : Network → Design → Side → ℕ
 side_price net d x = price_sum (ducts_of net) (sizes_in d) (Fan x)
@@ -72,7 +76,7 @@ module _ (net : Network) (tree : IsTree net.tree) where
   offered d meets = let covered = meets.pressure in record { in_range = meets.fits.fan; within = omega arith }
 
   -- without a least cost no design meets the rules
-  pub none_meets : ((fan supply : ℕ) → IsOffered net fan supply → cost_at net fan supply ≡ None) → NoneMeets net
+  pub none_meets : ((fan budget : ℕ) → IsOffered net fan budget → least_cost net fan budget ≡ None) → NoneMeets net
   none_meets none d meets =
       let bound = cost_bound d meets in
       let at = both_sides (fan_at net d.fan).cost _ _ _ _ bound.supply_is bound.return_is in

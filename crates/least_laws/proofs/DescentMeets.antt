@@ -27,7 +27,7 @@ use Rattle.least_laws.proofs.Taken.{left_over, left_over-is, descent-left, desce
 use Rattle.least_laws.proofs.CostBound.{side_price, both_sides}
 
 module _ (net : Network) (tree : IsTree net.tree) (d : Design) (supply price : ℕ)
-    (chosen : IsChosen net d.fan supply price)
+    (chosen : IsChosen net (side_least net Supply) (side_least net Return) d.fan supply price)
     (left : ℕ → ℕ) (descent : IsDescent net (budget_of net d.fan supply) left d) where
   pub best_sizing : IsBestSizing (ducts_of net) (budget_of net d.fan supply) (sizes_in d)
   best_sizing =

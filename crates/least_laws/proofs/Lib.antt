@@ -26,3 +26,4 @@ pub mod DescentMeets
 pub mod BestDesign
 pub mod Attained
 pub mod Loops
+pub mod ChosenAgrees

@@ -16,27 +16,26 @@ side_least net x budget = sum_of (λ r. least_in net r 0 budget) (roots net.tree
 
 -- of the fan's pressure the supply side has its budget, and the return side the rest
 abbrev pub budget_of : Network → ℕ → ℕ → Side → ℕ
-budget_of net fan supply Supply = supply
-budget_of net fan supply Return = (fan_at net fan).pressure - supply
+budget_of net fan budget Supply = budget
+budget_of net fan budget Return = (fan_at net fan).pressure - budget
 
--- the least cost with the fan and the supply budget
-abbrev pub cost_at : Network → ℕ → ℕ → Option ℕ
-cost_at net fan supply =
-    both_of (Some (fan_at net fan).cost)
-    (both_of (side_least net Supply supply) (side_least net Return (budget_of net fan supply Return)))
+-- the cost with the fan and the supply budget, where supply and back give the price of each side within a budget
+abbrev pub cost_at : Network → (ℕ → Option ℕ) → (ℕ → Option ℕ) → ℕ → ℕ → Option ℕ
+cost_at net supply back fan budget =
+    both_of (Some (fan_at net fan).cost) (both_of (supply budget) (back (budget_of net fan budget Return)))
 
 -- a fan of the network, and a supply budget within its pressure
-pub record IsOffered (net : Network) (fan supply : ℕ) : Type 0 where
+pub record IsOffered (net : Network) (fan budget : ℕ) : Type 0 where
   pub in_range : fan < length net.fans
-  pub within : supply ≤ (fan_at net fan).pressure
+  pub within : budget ≤ (fan_at net fan).pressure
 
 -- the fan and the supply budget have the least cost; no earlier fan has it, and no less supply budget with this fan
-pub record IsChosen (net : Network) (fan supply cost : ℕ) : Type 0 where
-  pub offered : IsOffered net fan supply
-  pub reached : cost_at net fan supply ≡ Some cost
-  pub least : (i b c : ℕ) → IsOffered net i b → cost_at net i b ≡ Some c → cost ≤ c
-  pub first_fan : (i b : ℕ) → i < fan → IsOffered net i b → cost_at net i b ≢ Some cost
-  pub least_supply : (b : ℕ) → b < supply → cost_at net fan b ≢ Some cost
+pub record IsChosen (net : Network) (supply back : ℕ → Option ℕ) (fan budget cost : ℕ) : Type 0 where
+  pub offered : IsOffered net fan budget
+  pub reached : cost_at net supply back fan budget ≡ Some cost
+  pub least : (i b c : ℕ) → IsOffered net i b → cost_at net supply back i b ≡ Some c → cost ≤ c
+  pub first_fan : (i b : ℕ) → i < fan → IsOffered net i b → cost_at net supply back i b ≢ Some cost
+  pub least_budget : (b : ℕ) → b < budget → cost_at net supply back fan b ≢ Some cost
 
 -- size k of section s has the least price, beside size g of the neighbour and within the budget
 pub record Attains (net : Network) (s g budget k : ℕ) : Type 0 where

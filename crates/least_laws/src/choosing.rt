@@ -1,10 +1,11 @@
 //! The way from leasts to the best design.
 
-ghost use Rattle.std.specs.Prelude.{◌≡◌, ◌-◌, ◌<◌, ◌≤◌, ℕ, Some, None, IsSome};
+ghost use Rattle.std.specs.Prelude.{◌≡◌, ◌-◌, ◌<◌, ◌≤◌, ℕ, Option, Some, None, IsSome};
 ghost use Rattle.duct_units.specs.declared.side.Side.{Side};
+ghost use Rattle.duct_units.specs.declared.side.Side.TheVariants.{Supply, Return};
 ghost use Rattle.duct_definitions.specs.declared.design.Design.{Design};
 ghost use Rattle.duct_definitions.specs.Tree.{IsTree, section_count, neighbour, side};
-ghost use Rattle.duct_definitions.specs.Network.{Network, columns, pair_at};
+ghost use Rattle.duct_definitions.specs.Network.{Network, columns, pair_at, cap};
 ghost use Rattle.duct_definitions.specs.Designs.{loss_of, cost};
 ghost use Rattle.duct_definitions.specs.Order.{IsBest, NoneMeets};
 ghost use Rattle.least_laws.specs.LeastIn.{least_in};
@@ -13,19 +14,27 @@ ghost use Rattle.least_laws.specs.Choosing.{side_least, budget_of, cost_at, IsOf
 /// With the first fan and then the least supply budget of the least cost, the design that takes at each section the
 /// first size with the least price, from the fan outwards, is the best, and has that cost.
 pub fn descent_is_best()
-    ensures best { (net : Network) → IsTree net.tree → (d : Design) (supply price : ℕ)
-        → IsChosen net d.fan supply price → (left : ℕ → ℕ)
-        → IsDescent net (budget_of net d.fan supply) left d → IsBest net d }
-    ensures cost { (net : Network) → IsTree net.tree → (d : Design) (supply price : ℕ)
-        → IsChosen net d.fan supply price → (left : ℕ → ℕ)
-        → IsDescent net (budget_of net d.fan supply) left d → cost net d ≡ price }
+    ensures best { (net : Network) → IsTree net.tree → (d : Design) (budget price : ℕ)
+        → IsChosen net (side_least net Supply) (side_least net Return) d.fan budget price
+        → (left : ℕ → ℕ) → IsDescent net (budget_of net d.fan budget) left d → IsBest net d }
+    ensures cost { (net : Network) → IsTree net.tree → (d : Design) (budget price : ℕ)
+        → IsChosen net (side_least net Supply) (side_least net Return) d.fan budget price
+        → (left : ℕ → ℕ) → IsDescent net (budget_of net d.fan budget) left d → cost net d ≡ price }
 {}
 
 /// Where no fan with any supply budget has a cost, no design meets the rules.
 pub fn no_cost_no_design()
     ensures { (net : Network) → IsTree net.tree
-        → ((fan supply : ℕ) → IsOffered net fan supply → cost_at net fan supply ≡ None)
+        → ((fan budget : ℕ) → IsOffered net fan budget
+            → cost_at net (side_least net Supply) (side_least net Return) fan budget ≡ None)
         → NoneMeets net }
+{}
+
+/// What is chosen from the prices of both sides depends on the budgets up to the greatest fan pressure alone.
+pub fn choice_depends_on_budgets_up_to_cap()
+    ensures { (net : Network) (supply other back again : ℕ → Option ℕ) (fan budget price : ℕ)
+        → ((b : ℕ) → b ≤ cap net → supply b ≡ other b) → ((b : ℕ) → b ≤ cap net → back b ≡ again b)
+        → IsChosen net supply back fan budget price → IsChosen net other again fan budget price }
 {}
 
 /// The way outwards goes on: the leasts of a side's roots are there where the side's is; some size attains a least
