@@ -1,11 +1,10 @@
 -- The least of a section is the same in networks that agree in its pairs and in the pairs of all beyond it.
-use Rattle.std.proofs.Common.{◌≡◌, ℕ, ◌+◌, ◌*◌, ◌<◌, true, refl, ap, sym, ◌∙◌, subst, Option, Some, None, List, [], length}
+use Rattle.std.proofs.Common.{◌≡◌, ℕ, ◌+◌, ◌*◌, refl, ap, sym, ◌∙◌, subst, Option, Some, None, List, [], length}
 use Rattle.std.specs.Prelude.{slice_get, unwrap_or}
 use Rattle.duct_definitions.specs.declared.design.Pair.{Pair}
 use Rattle.duct_definitions.specs.Tree.{Tree, IsTree, section_count, neighbour}
 use Rattle.duct_definitions.specs.Network.{Network, size_count, columns, columns_beside, pairs_of, pair_at}
 use Rattle.duct_definitions.specs.Least.{IsLeast}
-use Rattle.tree_sums.specs.Route.{At, goes_by}
 use Rattle.least_laws.specs.SamePairs.{AgreeBeyond}
 use Rattle.least_laws.proofs.Ducts.{Ducts, IsLeastSum}
 use Rattle.least_laws.proofs.Unique.{with_pairs, least-moves, AgreeBeyond as AgreeInPairs}

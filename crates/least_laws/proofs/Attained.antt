@@ -1,6 +1,6 @@
 -- The way from the fan outwards goes on: where a least is there, some size attains it, the size's loss is within the
 -- budget, and the leasts of the children are there.
-use Rattle.std.proofs.Common.{◌≡◌, ℕ, ◌+◌, ◌-◌, ◌<◌, ◌≤◌, true, refl, arith, ap, sym, ◌∙◌, subst, inl, inr, cond, Option, Some, None, List, [], ◌∷◌}
+use Rattle.std.proofs.Common.{◌≡◌, ℕ, ◌-◌, ◌<◌, ◌≤◌, true, refl, arith, ap, sym, ◌∙◌, subst, inl, inr, Option, Some, None, List, [], ◌∷◌}
 use Rattle.std.proofs.lemmas.Bool.{eq-eqb, lt-ltb, and_from}
 use Rattle.std.specs.Prelude.{IsSome, is_some, is_none, ◌&&◌}
 use Rattle.duct_units.specs.declared.side.Side.{Side}
@@ -9,7 +9,7 @@ use Rattle.duct_definitions.specs.Network.{Network, size_count, columns, pair_at
 use Rattle.duct_definitions.specs.Designs.{loss_of}
 use Rattle.design_laws.proofs.Among.{Among, Among-filter, Among-range}
 use Rattle.design_laws.proofs.Ways.{same_side-same}
-use Rattle.least_laws.specs.Prices.{least_below, both_of, sum_of}
+use Rattle.least_laws.specs.Prices.{both_of, sum_of}
 use Rattle.least_laws.specs.LeastIn.{least_with, least_in}
 use Rattle.least_laws.specs.Choosing.{side_least, Attains}
 use Rattle.least_laws.proofs.LeastBelow.{least_below-some}

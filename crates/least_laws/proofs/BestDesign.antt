@@ -1,31 +1,27 @@
 -- The design taken from the fan outwards, with the chosen fan and supply budget, is the best.
-use Rattle.std.proofs.Common.{◌≡◌, ◌≢◌, ℕ, zero, suc, ◌+◌, ◌-◌, ◌<◌, ◌≤◌, ◌⊎◌, inl, inr, true, false, refl, arith, ap, sym, ◌∙◌, subst, Option, Some, None, List, [], ◌∷◌, length}
-use Rattle.std.proofs.lemmas.Bool.{cases_order}
+use Rattle.std.proofs.Common.{◌≡◌, ℕ, ◌+◌, ◌≤◌, ◌⊎◌, inl, inr, arith, ap, sym, ◌∙◌, Some}
 use Rattle.std.proofs.lemmas.Bool.Decides.{leb_tells}
-use Rattle.std.specs.Prelude.{IsSome, slice_index, is_some}
 use Rattle.duct_units.specs.declared.side.Side.{Side}
 use Rattle.duct_units.specs.declared.side.Side.TheVariants.{Supply, Return}
 use Rattle.duct_definitions.specs.declared.design.Design.{Design}
-use Rattle.duct_definitions.specs.Tree.{IsTree, section_count, side}
+use Rattle.duct_definitions.specs.Tree.{IsTree}
 use Rattle.duct_definitions.specs.Network.{Network, fan_at}
-use Rattle.duct_definitions.specs.Designs.{Fits, Meets, worst, cost}
-use Rattle.duct_definitions.specs.Order.{Earlier, LessOr, Before, IsBest, NoneMeets}
-use Rattle.tree_sums.specs.Route.{Fan, Falls}
-use Rattle.tree_sums.proofs.Places.{same-refl}
-use Rattle.least_laws.specs.Prices.{both_of}
+use Rattle.duct_definitions.specs.Designs.{Meets, worst, cost}
+use Rattle.duct_definitions.specs.Order.{Earlier, Before, IsBest}
+use Rattle.tree_sums.specs.Route.{Fan}
 use Rattle.least_laws.specs.LeastIn.{least_in}
-use Rattle.least_laws.specs.Choosing.{side_least, budget_of, cost_at, IsOffered, IsChosen, IsDescent}
-use Rattle.least_laws.proofs.Ducts.{Ducts, IsSizing, price_sum}
+use Rattle.least_laws.specs.Choosing.{side_least, budget_of, IsChosen, IsDescent}
+use Rattle.least_laws.proofs.Ducts.{IsSizing}
 use Rattle.least_laws.proofs.LeastBelow.{some-same}
-use Rattle.least_laws.proofs.Side.{side_sum, IsSideBound, side-bound, side-tight, side-sizing, side_sum-optimal}
-use Rattle.least_laws.proofs.Descent.{IsBestSizing, first-best, descent-first}
-use Rattle.least_laws.proofs.TreePlaces.{next_in, next_in-falls}
+use Rattle.least_laws.proofs.Side.{side-tight}
+use Rattle.least_laws.proofs.Descent.{IsBestSizing, descent-first}
+use Rattle.least_laws.proofs.TreePlaces.{next_in-falls}
 use Rattle.least_laws.proofs.DuctsOf.{ducts_of}
 use Rattle.least_laws.proofs.SideLeast.{side_sum-least, least_in-sums, least_in-roots}
-use Rattle.least_laws.proofs.DesignSizes.{sizes_in, chosen-pair_of, goes_by-side, cost-sides, sizing-from_meets, worst-le}
+use Rattle.least_laws.proofs.DesignSizes.{sizes_in, cost-sides, sizing-from_meets}
 use Rattle.least_laws.proofs.Taken.{left_over, left_over-is, descent-left, descent-first_sizes}
 use Rattle.least_laws.proofs.Comparing.{le_then, Earlier-from}
-use Rattle.least_laws.proofs.CostBound.{side_price, least_cost, IsCostBound, both_sides, side_least-bound, cost_bound, offered}
+use Rattle.least_laws.proofs.CostBound.{side_price, least_cost, both_sides, side_least-bound, cost_bound, offered}
 use Rattle.least_laws.proofs.DescentMeets.{side_least-is, worst-budget, descent_meets, descent_cost}
 
 module _ (net : Network) (tree : IsTree net.tree) (d : Design) (supply price : ℕ)

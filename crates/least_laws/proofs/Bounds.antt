@@ -1,5 +1,5 @@
 -- The least doesn't rise with the budget, and is at most the greatest price for each section.
-use Rattle.std.proofs.Common.{◌≡◌, ℕ, ◌+◌, ◌*◌, ◌<◌, ◌≤◌, true, false, refl, arith, ap, sym, ◌∙◌, subst, inl, inr, cond, Option, Some, None, List, [], ◌∷◌, length}
+use Rattle.std.proofs.Common.{◌≡◌, ℕ, ◌+◌, ◌*◌, ◌<◌, ◌≤◌, true, false, refl, arith, subst, cond, Option, Some, None, List, [], ◌∷◌, length}
 use Rattle.std.proofs.lemmas.List.FromFn.{length-range_with_len}
 use Rattle.std.proofs.lemmas.List.Sums.{sum_by-le}
 use Rattle.std.proofs.lemmas.Option.{slice_get_within, get_or_from_slice_get}
@@ -7,7 +7,7 @@ use Rattle.std.proofs.Math.Nat.{mul-le-mul_right}
 use Rattle.std.specs.Prelude.{All, IfSome, IsSomeAnd, filter, slice_get, unwrap_or, Bool}
 use Rattle.duct_definitions.specs.declared.design.Pair.{Pair}
 use Rattle.duct_definitions.specs.declared.limits.TheConstants.{MAX_PRICE}
-use Rattle.duct_definitions.specs.Tree.{IsTree, section_count, sections, passes}
+use Rattle.duct_definitions.specs.Tree.{section_count, sections, passes}
 use Rattle.duct_definitions.specs.Network.{Network, IsNetwork, IsBounded, columns, pairs_of, pair_at}
 use Rattle.duct_definitions.specs.Designs.{price_of}
 use Rattle.duct_definitions.specs.Dampers.{leaves_beyond}

@@ -1,5 +1,5 @@
 -- What is chosen depends on the prices within budgets up to the greatest fan pressure alone.
-use Rattle.std.proofs.Common.{◌≡◌, ℕ, zero, suc, ◌-◌, ◌<◌, ◌≤◌, max, refl, arith, ap, sym, ◌∙◌, Option, Some, None, List, [], ◌∷◌, map, length}
+use Rattle.std.proofs.Common.{◌≡◌, ℕ, zero, suc, ◌<◌, ◌≤◌, max, arith, ap, sym, ◌∙◌, Option, Some, List, [], ◌∷◌, map, length}
 use Rattle.std.specs.Prelude.{fold, slice_get, unwrap_or}
 use Rattle.duct_units.specs.declared.side.Side.TheVariants.{Return}
 use Rattle.duct_definitions.specs.declared.design.NetFan.{NetFan}

@@ -1,5 +1,5 @@
 -- One sizing for a section and all beyond it, from one for each of its children.
-use Rattle.std.proofs.Common.{◌≡◌, ℕ, zero, suc, ◌<◌, ◌≤◌, Bool, true, false, refl, arith, ap, sym, ◌∙◌, cond, ◌==◌, inl, inr, ◌&&◌}
+use Rattle.std.proofs.Common.{◌≡◌, ℕ, zero, suc, ◌<◌, Bool, true, false, refl, arith, ap, sym, ◌∙◌, cond, ◌==◌, inl, inr, ◌&&◌}
 use Rattle.std.proofs.lemmas.Bool.Decides.{eqb_tells}
 use Rattle.duct_units.specs.declared.side.Side.{Side}
 use Rattle.tree_sums.specs.Route.{Place, Fan, At, same, Falls, goes_by}

@@ -21,7 +21,7 @@ agree_more x y xs ys i equal agree (suc j) less = agree j (omega arith)
 -- where at the first difference the first list has the smaller number, the lists are one or the first is earlier
 pub Earlier-from : (xs ys : List ℕ) → length xs ≡ length ys
     → ((i : ℕ) → i < length xs → ((j : ℕ) → j < i → slice_index xs j ≡ slice_index ys j)
-        → slice_index xs i ≤ slice_index ys i)
+    → slice_index xs i ≤ slice_index ys i)
     → (ys ≡ xs) ⊎ Earlier xs ys
 Earlier-from [] [] same first = inl refl
 Earlier-from [] (y ∷ ys) same first = absurd (omega arith)
@@ -32,7 +32,7 @@ Earlier-from (x ∷ xs) (y ∷ ys) same first =
       | inr apart ↦ elim apart [ inl less ↦ inr (inl less) | inr more ↦ absurd (omega arith) ]
       | inl equal ↦
           let rest : (i : ℕ) → i < length xs
-              → ((j : ℕ) → j < i → slice_index xs j ≡ slice_index ys j) → slice_index xs i ≤ slice_index ys i =
+          → ((j : ℕ) → j < i → slice_index xs j ≡ slice_index ys j) → slice_index xs i ≤ slice_index ys i =
           λ i less agree. first (suc i) (omega arith) (agree_more x y xs ys i equal agree) in
           elim (Earlier-from xs ys (omega arith) rest) [
             | inl tail ↦ inl (ap (λ z. z ∷ ys) (sym equal) ∙ ap (λ zs. x ∷ zs) tail)

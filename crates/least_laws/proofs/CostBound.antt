@@ -1,29 +1,22 @@
 -- A design that meets the rules costs no less than its fan with its worst supply loss as the budget.
-use Rattle.std.proofs.Common.{◌≡◌, ◌≢◌, ℕ, zero, suc, ◌+◌, ◌-◌, ◌<◌, ◌≤◌, ◌⊎◌, inl, inr, true, false, refl, arith, ap, sym, ◌∙◌, subst, Option, Some, None, List, [], ◌∷◌, length}
-use Rattle.std.proofs.lemmas.Bool.{cases_order}
-use Rattle.std.proofs.lemmas.Bool.Decides.{leb_tells}
-use Rattle.std.specs.Prelude.{IsSome, slice_index, is_some}
+use Rattle.std.proofs.Common.{◌≡◌, ℕ, ◌+◌, ◌≤◌, arith, ap, sym, ◌∙◌, Option, Some, None}
 use Rattle.duct_units.specs.declared.side.Side.{Side}
 use Rattle.duct_units.specs.declared.side.Side.TheVariants.{Supply, Return}
 use Rattle.duct_definitions.specs.declared.design.Design.{Design}
-use Rattle.duct_definitions.specs.Tree.{IsTree, section_count, side}
+use Rattle.duct_definitions.specs.Tree.{IsTree}
 use Rattle.duct_definitions.specs.Network.{Network, fan_at}
-use Rattle.duct_definitions.specs.Designs.{Fits, Meets, worst, cost}
-use Rattle.duct_definitions.specs.Order.{Earlier, LessOr, Before, IsBest, NoneMeets}
-use Rattle.tree_sums.specs.Route.{Fan, Falls}
-use Rattle.tree_sums.proofs.Places.{same-refl}
+use Rattle.duct_definitions.specs.Designs.{Meets, worst, cost}
+use Rattle.duct_definitions.specs.Order.{NoneMeets}
+use Rattle.tree_sums.specs.Route.{Fan}
 use Rattle.least_laws.specs.Prices.{both_of}
 use Rattle.least_laws.specs.LeastIn.{least_in}
-use Rattle.least_laws.specs.Choosing.{side_least, budget_of, cost_at, IsOffered, IsChosen, IsDescent}
-use Rattle.least_laws.proofs.Ducts.{Ducts, IsSizing, price_sum}
-use Rattle.least_laws.proofs.LeastBelow.{some-same}
-use Rattle.least_laws.proofs.Side.{side_sum, IsSideBound, side-bound, side-tight, side-sizing, side_sum-optimal}
-use Rattle.least_laws.proofs.Descent.{IsBestSizing, first-best, descent-first}
-use Rattle.least_laws.proofs.TreePlaces.{next_in, next_in-falls}
+use Rattle.least_laws.specs.Choosing.{side_least, budget_of, cost_at, IsOffered}
+use Rattle.least_laws.proofs.Ducts.{IsSizing, price_sum}
+use Rattle.least_laws.proofs.Side.{side-bound}
+use Rattle.least_laws.proofs.TreePlaces.{next_in-falls}
 use Rattle.least_laws.proofs.DuctsOf.{ducts_of}
-use Rattle.least_laws.proofs.SideLeast.{side_sum-least, least_in-sums, least_in-roots}
-use Rattle.least_laws.proofs.DesignSizes.{sizes_in, chosen-pair_of, goes_by-side, cost-sides, sizing-from_meets, worst-le}
-use Rattle.least_laws.proofs.Taken.{left_over, left_over-is, descent-left, descent-first_sizes}
+use Rattle.least_laws.proofs.SideLeast.{side_sum-least, least_in-roots}
+use Rattle.least_laws.proofs.DesignSizes.{sizes_in, sizing-from_meets}
 
 -- the cost with the fan and the supply budget, from the leasts of both sides
 abbrev pub least_cost : Network → ℕ → ℕ → Option ℕ

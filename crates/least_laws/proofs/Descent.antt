@@ -6,7 +6,7 @@ use Rattle.duct_definitions.specs.Designs.{loss_of}
 use Rattle.tree_sums.specs.Route.{Place, Fan, At, Falls}
 use Rattle.tree_sums.proofs.Climb.{climb}
 use Rattle.least_laws.proofs.Ducts.{Ducts, size_at, chosen, loss, AreLeastSums}
-use Rattle.least_laws.proofs.Optimal.{IsOptimal, AttainsSum, Divides, optimal-divides, optimal-joins}
+use Rattle.least_laws.proofs.Optimal.{IsOptimal, AttainsSum, optimal-divides, optimal-joins}
 
 -- left is what the sections towards the fan leave of the side's budget
 pub record IsLeft (net : Ducts) (budget : Side → ℕ) (f left : ℕ → ℕ) : Type 0 where

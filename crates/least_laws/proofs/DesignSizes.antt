@@ -1,29 +1,28 @@
 -- A design that meets the rules, as sizes of a whole side: path losses are sums along routes, and the cost is the
 -- fan's and the sums of prices of both sides.
-use Rattle.std.proofs.Common.{◌≡◌, ◌≢◌, ℕ, zero, suc, ◌+◌, ◌<◌, ◌≤◌, max, Bool, true, false, refl, arith, ap, sym, ◌∙◌, inl, inr, subst, cond, Option, Some, None, List, [], ◌∷◌, map, length, ◌||◌}
+use Rattle.std.proofs.Common.{◌≡◌, ℕ, zero, suc, ◌+◌, ◌≤◌, max, true, refl, arith, ap, sym, ◌∙◌, inl, inr, Option, Some, None, List, [], ◌∷◌, map}
 use Rattle.std.proofs.Math.Path.{fun_ext}
 use Rattle.std.proofs.lemmas.List.Sums.{sum_by-cons, sum_by-append}
-use Rattle.std.specs.Prelude.{◌&&◌, IsSome, fold, sum_by, slice_index, is_some}
+use Rattle.std.specs.Prelude.{◌&&◌, fold, sum_by, slice_index}
 use Rattle.std.specs.List.{range_with_len}
 use Rattle.duct_units.specs.declared.side.Side.{Side}
 use Rattle.duct_units.specs.declared.side.Side.TheVariants.{Supply, Return}
 use Rattle.duct_definitions.specs.declared.design.Design.{Design}
-use Rattle.duct_definitions.specs.declared.design.Pair.{Pair}
 use Rattle.duct_definitions.specs.Tree.{Tree, IsTree, section_count, sections, neighbour, side, leaves, is_leaf, way, same_side}
-use Rattle.duct_definitions.specs.Network.{Network, IsNetwork, size_count, pair_at, fan_at}
-use Rattle.duct_definitions.specs.Designs.{Fits, Meets, size_beside, pair_of, loss_of, price_of, path_loss, worst, cost}
+use Rattle.duct_definitions.specs.Network.{Network, pair_at, fan_at}
+use Rattle.duct_definitions.specs.Designs.{Meets, size_beside, pair_of, loss_of, price_of, path_loss, worst, cost}
 use Rattle.design_laws.proofs.Among.{Among, Among-filtered, le-max}
 use Rattle.design_laws.proofs.Ways.{way-at_fan, way-beside, neighbour_side, same_side-true}
 use Rattle.design_laws.proofs.Beyond.{Among-leaves, is_within}
 use Rattle.std.proofs.lemmas.Bool.{and_parts}
-use Rattle.tree_sums.specs.Route.{Place, Fan, At, Falls, same_end, same, goes_by}
-use Rattle.tree_sums.specs.Sums.{along, total, gated, beyond}
+use Rattle.tree_sums.specs.Route.{Fan, same_end, goes_by}
+use Rattle.tree_sums.specs.Sums.{along, total, gated}
 use Rattle.tree_sums.proofs.Climb.{climb}
-use Rattle.tree_sums.proofs.Places.{same-refl, same-true}
+use Rattle.tree_sums.proofs.Places.{same-refl}
 use Rattle.tree_sums.proofs.Split.{goes_by-fan, goes_by-at}
 use Rattle.tree_sums.proofs.Along.{along-fan, along-on}
 use Rattle.tree_sums.proofs.Totals.{total-cong, total-add}
-use Rattle.least_laws.proofs.Ducts.{Ducts, size_at, chosen, loss, price, IsSizing, price_sum}
+use Rattle.least_laws.proofs.Ducts.{size_at, chosen, loss, price, IsSizing, price_sum}
 use Rattle.least_laws.proofs.TreePlaces.{place_of, next_in, next_in-falls, neighbour-at, neighbour-fan, neighbour-within, range_with_len-last}
 use Rattle.least_laws.proofs.TreeLists.{leaf-end, end-leaf}
 use Rattle.least_laws.proofs.DuctsOf.{ducts_of, some-there}

@@ -1,6 +1,6 @@
 -- A network as functions, over which the laws are proved: the fan's sides and the sections are places of one kind, and
 -- sums go over all numbers below the number of sections.
-use Rattle.std.specs.Prelude.{◌≡◌, ◌≢◌, ℕ, zero, suc, ◌-◌, ◌<◌, ◌≤◌, true, Option, Some, None, if◌then◌else◌}
+use Rattle.std.specs.Prelude.{◌≡◌, ◌≢◌, ℕ, zero, suc, ◌<◌, ◌≤◌, true, Option, Some, None, if◌then◌else◌}
 use Rattle.duct_units.specs.declared.side.Side.{Side}
 use Rattle.duct_definitions.specs.declared.design.Pair.{Pair}
 use Rattle.duct_definitions.specs.Designs.{loss_of, price_of}

@@ -1,23 +1,20 @@
 -- A network as functions, and that its choices and leasts are those of the network.
-use Rattle.std.proofs.Common.{◌≡◌, ℕ, ◌+◌, ◌<◌, ◌≤◌, Bool, true, refl, arith, ap, sym, ◌∙◌, cond, inl, inr, subst, Option, Some, None}
+use Rattle.std.proofs.Common.{◌≡◌, ℕ, ◌<◌, ◌≤◌, true, refl, arith, ap, sym, ◌∙◌, Option, Some, None}
 use Rattle.std.proofs.Math.Path.{fun_ext}
-use Rattle.std.specs.Prelude.{IsSome, All, filter, sum_by, is_some}
-use Rattle.std.specs.List.{range_with_len}
+use Rattle.std.specs.Prelude.{IsSome, is_some}
 use Rattle.duct_units.specs.declared.side.Side.{Side}
 use Rattle.duct_definitions.specs.declared.design.Pair.{Pair}
-use Rattle.duct_definitions.specs.Tree.{Tree, IsTree, section_count, sections, neighbour, side, children, passes}
+use Rattle.duct_definitions.specs.Tree.{IsTree, section_count, neighbour, side, children, passes}
 use Rattle.duct_definitions.specs.Network.{Network, size_count, columns, columns_beside, pair_at}
 use Rattle.duct_definitions.specs.Designs.{loss_of, price_of}
-use Rattle.duct_definitions.specs.Dampers.{leaves_beyond}
-use Rattle.duct_definitions.specs.Least.{sections_beyond, way_to, size_next, pair_in, loss_to, price_beyond, IsChoice, IsLeastPrice, IsLeast}
-use Rattle.tree_sums.specs.Route.{Place, Fan, At, Falls, same, goes_by}
-use Rattle.tree_sums.specs.Sums.{along, total, gated, beyond}
+use Rattle.duct_definitions.specs.Least.{size_next, pair_in, loss_to, price_beyond, IsChoice, IsLeast}
+use Rattle.tree_sums.specs.Route.{At, goes_by}
+use Rattle.tree_sums.specs.Sums.{along, gated, beyond}
 use Rattle.tree_sums.proofs.Totals.{total-cong}
 use Rattle.least_laws.specs.Prices.{least_below, sum_of, with_pair}
 use Rattle.least_laws.specs.LeastIn.{least_with, least_from, AreLeasts}
 use Rattle.least_laws.proofs.Ducts.{Ducts, size_at, chosen, loss, price, IsBeside, IsSizing, price_sum, IsLeastSum, joined, sum_with, sum_from, AreLeastSums}
-use Rattle.least_laws.proofs.Theorem.{least-step}
-use Rattle.least_laws.proofs.TreePlaces.{place_of, next_in, next_in-some, neighbour-at, neighbour-fan, neighbour-within, next_in-falls, passes-goes_by, sum_by-way, sum_by-filter}
+use Rattle.least_laws.proofs.TreePlaces.{place_of, next_in, neighbour-at, neighbour-fan, passes-goes_by, sum_by-way, sum_by-filter}
 use Rattle.least_laws.proofs.TreeLists.{All-beyond, All-from_beyond, All-leaves, All-from_leaves, children-same}
 use Rattle.least_laws.proofs.SumOf.{joined-sum_of}
 

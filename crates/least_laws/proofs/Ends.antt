@@ -15,7 +15,7 @@ find_child next s zero = inr (λ c less. absurd (omega arith))
 find_child next s (suc m) =
     elim (same (next m) (At s)) as
     (λ b. same (next m) (At s) ≡ b
-        → ((c : ℕ) × (c < suc m) × (next c ≡ At s)) ⊎ ((c : ℕ) → c < suc m → next c ≢ At s)) [
+    → ((c : ℕ) × (c < suc m) × (next c ≡ At s)) ⊎ ((c : ℕ) → c < suc m → next c ≢ At s)) [
       | true ↦ λ is. inl (m, omega arith, same-true (next m) (At s) is)
       | false ↦ λ apart. elim (find_child next s m) [
         | inl found ↦ inl (found.0, (let less = found.1 in omega arith), found.2)

@@ -1,5 +1,5 @@
 -- What the sum over the sections next to a place says of each price.
-use Rattle.std.proofs.Common.{◌≡◌, ℕ, zero, suc, ◌+◌, ◌-◌, ◌<◌, ◌≤◌, min, Bool, true, false, refl, arith, ap, sym, ◌∙◌, cond, inl, inr, subst, Option, Some, None}
+use Rattle.std.proofs.Common.{◌≡◌, ℕ, zero, suc, ◌+◌, ◌<◌, true, false, refl, arith, ap, sym, ◌∙◌, cond, inl, inr, subst, Option, Some, None}
 use Rattle.std.proofs.lemmas.Bool.Decides.{eqb_tells}
 use Rattle.tree_sums.specs.Route.{Place, same}
 use Rattle.tree_sums.specs.Sums.{gated, total}
@@ -29,17 +29,17 @@ module _ (next : ℕ → Place) (o : Place) (h : ℕ → Option ℕ) where
   joined-none (suc m) none =
       elim (same (next m) o) as
       (λ b. same (next m) o ≡ b → cond b (both_of (joined next o h m) (h m)) (joined next o h m) ≡ None
-          → IsMissing next o h (suc m)) [
+      → IsMissing next o h (suc m)) [
         | false ↦ λ apart is. missing-more m (joined-none m is)
         | true ↦ λ beside is. elim (joined next o h m) as
-        (λ a. joined next o h m ≡ a → both_of a (h m) ≡ None → IsMissing next o h (suc m)) [
-          | None ↦ λ before _. missing-more m (joined-none m before)
-          | Some x ↦ λ before last. elim (h m) as
-          (λ d. h m ≡ d → both_of (Some x) d ≡ None → IsMissing next o h (suc m)) [
-            | None ↦ λ at _. record { at = m; below = omega arith; beside = beside; none = at }
-            | Some y ↦ λ at both. absurd (cc both)
-          ] refl last
-        ] refl is
+            (λ a. joined next o h m ≡ a → both_of a (h m) ≡ None → IsMissing next o h (suc m)) [
+              | None ↦ λ before _. missing-more m (joined-none m before)
+              | Some x ↦ λ before last. elim (h m) as
+                  (λ d. h m ≡ d → both_of (Some x) d ≡ None → IsMissing next o h (suc m)) [
+                    | None ↦ λ at _. record { at = m; below = omega arith; beside = beside; none = at }
+                    | Some y ↦ λ at both. absurd (cc both)
+                  ] refl last
+            ] refl is
       ] refl none
 
   joined-apart : (m v : ℕ) → same (next m) o ≡ false → IsJoined next o h m v → IsJoined next o h (suc m) v
@@ -77,17 +77,17 @@ module _ (next : ℕ → Place) (o : Place) (h : ℕ → Option ℕ) where
   joined-some (suc m) v some =
       elim (same (next m) o) as
       (λ b. same (next m) o ≡ b → cond b (both_of (joined next o h m) (h m)) (joined next o h m) ≡ Some v
-          → IsJoined next o h (suc m) v) [
+      → IsJoined next o h (suc m) v) [
         | false ↦ λ apart is. joined-apart m v apart (joined-some m v is)
         | true ↦ λ beside is. elim (joined next o h m) as
-        (λ a. joined next o h m ≡ a → both_of a (h m) ≡ Some v → IsJoined next o h (suc m) v) [
-          | None ↦ λ before last. absurd (cc last)
-          | Some x ↦ λ before last. elim (h m) as
-          (λ d. h m ≡ d → both_of (Some x) d ≡ Some v → IsJoined next o h (suc m) v) [
-            | None ↦ λ at both. absurd (cc both)
-            | Some y ↦ λ at both.
-                subst (IsJoined next o h (suc m)) (some-same (x + y) v both)
-                (joined-beside m x y beside at (joined-some m x before))
-          ] refl last
-        ] refl is
+            (λ a. joined next o h m ≡ a → both_of a (h m) ≡ Some v → IsJoined next o h (suc m) v) [
+              | None ↦ λ before last. absurd (cc last)
+              | Some x ↦ λ before last. elim (h m) as
+                  (λ d. h m ≡ d → both_of (Some x) d ≡ Some v → IsJoined next o h (suc m) v) [
+                    | None ↦ λ at both. absurd (cc both)
+                    | Some y ↦ λ at both.
+                        subst (IsJoined next o h (suc m)) (some-same (x + y) v both)
+                        (joined-beside m x y beside at (joined-some m x before))
+                  ] refl last
+            ] refl is
       ] refl some

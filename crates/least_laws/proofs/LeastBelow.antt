@@ -1,5 +1,5 @@
 -- What the least of many prices says of each.
-use Rattle.std.proofs.Common.{◌≡◌, ℕ, zero, suc, ◌+◌, ◌-◌, ◌<◌, ◌≤◌, min, Bool, true, false, refl, arith, ap, sym, ◌∙◌, cond, inl, inr, subst, Option, Some, None}
+use Rattle.std.proofs.Common.{◌≡◌, ℕ, zero, suc, ◌<◌, ◌≤◌, min, refl, arith, ap, sym, ◌∙◌, inl, inr, subst, Option, Some, None}
 use Rattle.std.proofs.lemmas.Bool.Decides.{eqb_tells, leb_tells}
 use Rattle.least_laws.specs.Prices.{lesser, least_below}
 

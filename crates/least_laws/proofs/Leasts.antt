@@ -1,14 +1,13 @@
 -- The laws of the least in a network: from its children's leasts, by the recursion, as one value.
-use Rattle.std.proofs.Common.{◌≡◌, ℕ, zero, suc, ◌+◌, ◌<◌, ◌≤◌, refl, arith, ap, sym, ◌∙◌, subst, Option, Some, None}
-use Rattle.duct_definitions.specs.Tree.{IsTree, section_count, neighbour}
-use Rattle.duct_definitions.specs.Network.{Network, size_count, columns}
+use Rattle.std.proofs.Common.{◌≡◌, ℕ, zero, suc, ◌+◌, ◌<◌, ◌≤◌, refl, arith, ap, sym, subst, Option, Some, None}
+use Rattle.duct_definitions.specs.Tree.{IsTree, section_count}
+use Rattle.duct_definitions.specs.Network.{Network, columns}
 use Rattle.duct_definitions.specs.Least.{IsLeast}
 use Rattle.duct_definitions.proofs.TreeLaws.{earlier}
 use Rattle.least_laws.specs.LeastIn.{least_from, least_within, least_in, AreLeasts}
-use Rattle.least_laws.proofs.Ducts.{IsLeastSum}
 use Rattle.least_laws.proofs.Theorem.{least-step}
 use Rattle.least_laws.proofs.TreePlaces.{next_in-falls}
-use Rattle.least_laws.proofs.DuctsOf.{ducts_of, beside-columns, columns-child, sum-from_least, least-from_sum, sum_from-least_from, sums-from_leasts}
+use Rattle.least_laws.proofs.DuctsOf.{ducts_of, beside-columns, columns-child, least-from_sum, sum_from-least_from, sums-from_leasts}
 
 pub least_of_section : (net : Network) → IsTree net.tree → (leasts : ℕ → ℕ → ℕ → Option ℕ) (s g budget : ℕ)
     → s < section_count net.tree → g < columns net s → AreLeasts net s leasts

@@ -1,8 +1,7 @@
 -- A sizing costs the least exactly where its size attains the least and it costs the least from each child on.
-use Rattle.std.proofs.Common.{◌≡◌, ℕ, ◌+◌, ◌-◌, ◌<◌, ◌≤◌, true, false, refl, arith, ap, sym, ◌∙◌, inl, inr, subst, Option, Some, None}
-use Rattle.duct_definitions.specs.declared.design.Pair.{Pair}
+use Rattle.std.proofs.Common.{◌≡◌, ℕ, ◌-◌, ◌<◌, ◌≤◌, true, false, refl, arith, ap, sym, ◌∙◌, inl, inr, subst, Option, Some}
 use Rattle.duct_definitions.specs.Designs.{loss_of, price_of}
-use Rattle.tree_sums.specs.Route.{At, same, Falls, goes_by}
+use Rattle.tree_sums.specs.Route.{At, same, Falls}
 use Rattle.tree_sums.specs.Sums.{gated, total, along}
 use Rattle.tree_sums.proofs.Totals.{total-cong, total-tight}
 use Rattle.tree_sums.proofs.Places.{same-refl, same-true, gated-cong}
@@ -85,7 +84,7 @@ module _ (net : Ducts) (falls : Falls net.next) (leasts : ℕ → ℕ → ℕ �
       λ c _ child.
       subst (λ q. IsSizing net (At c) q f) (ap (λ q. b - q) lost) (sizing-child net falls s c b f child optimal.1) in
       let least : (c : ℕ) → c < net.count → net.next c ≡ At s
-          → IsLeastSum net c (f s) r (Some (value (leasts c (f s) r))) =
+      → IsLeastSum net c (f s) r (Some (value (leasts c (f s) r))) =
       λ c less child.
       subst (IsLeastSum net c (f s) r)
       (sum.there c less (ap (λ o. same o (At s)) child ∙ same-refl (At s))) (known c (f s) r less child in_range) in
@@ -97,7 +96,7 @@ module _ (net : Ducts) (falls : Falls net.next) (leasts : ℕ → ℕ → ℕ �
           ap (size_at f) child,
           subst (λ q. IsSizing net (At c) q f) rr (sizings c less child),
           subst (λ q. IsLeastSum net c (f s) q (Some (price_sum net f (At c)))) rr
-          (subst (λ q. IsLeastSum net c (f s) r (Some q)) (tight c less child) (least c less child)),
+              (subst (λ q. IsLeastSum net c (f s) r (Some q)) (tight c less child) (least c less child)),
         );
       }
 
@@ -117,7 +116,7 @@ module _ (net : Ducts) (falls : Falls net.next) (leasts : ℕ → ℕ → ℕ �
       let rr : b - m.p.loss ≡ r = ap (λ q. b - q) (sym lost) in
       let whole = price_sum-split net falls s f within in
       let sums : total (λ c. gated (same (net.next c) (At s)) (value (leasts c (f s) (b - m.p.loss)))) net.count
-          ≡ total (λ c. gated (same (net.next c) (At s)) (price_sum net f (At c))) net.count =
+      ≡ total (λ c. gated (same (net.next c) (At s)) (price_sum net f (At c))) net.count =
       total-cong _ _ net.count (λ c less. gated-cong (same (net.next c) (At s)) _ _ (λ next_to.
       let child = same-true (net.next c) (At s) next_to in
       let at : leasts c (f s) r ≡ Some (price_sum net f (At c)) =
@@ -149,5 +148,5 @@ module _ (net : Ducts) (falls : Falls net.next) (leasts : ℕ → ℕ → ℕ �
           ];
         },
         subst (IsLeastSum net s g b) (divided.attains.2.1 ∙ ap Some (sym price_is))
-        (least-step net falls leasts s within known g b fan),
+            (least-step net falls leasts s within known g b fan),
       )

@@ -1,5 +1,5 @@
 -- The least of a whole side is the sum of the leasts of the sections at the fan.
-use Rattle.std.proofs.Common.{◌≡◌, ℕ, ◌+◌, ◌<◌, ◌≤◌, true, false, refl, arith, ap, sym, ◌∙◌, inl, inr, subst, Option, Some, None}
+use Rattle.std.proofs.Common.{◌≡◌, ℕ, ◌<◌, ◌≤◌, true, false, refl, arith, ap, sym, ◌∙◌, subst, Option, Some, None}
 use Rattle.duct_units.specs.declared.side.Side.{Side}
 use Rattle.tree_sums.specs.Route.{Fan, At, same, Falls, goes_by}
 use Rattle.tree_sums.specs.Sums.{gated, total}
@@ -9,8 +9,8 @@ use Rattle.tree_sums.proofs.Split.{beyond-fan}
 use Rattle.tree_sums.proofs.Along.{along-split}
 use Rattle.tree_sums.proofs.Beyond.{goes_by-from, fan-cases}
 use Rattle.least_laws.proofs.Ducts.{Ducts, size_at, loss, price, IsSizing, price_sum, IsLeastSum, joined}
-use Rattle.least_laws.proofs.LeastBelow.{value, some-same}
-use Rattle.least_laws.proofs.Joined.{IsJoined, joined-none, joined-some}
+use Rattle.least_laws.proofs.LeastBelow.{value}
+use Rattle.least_laws.proofs.Joined.{joined-none, joined-some}
 use Rattle.least_laws.proofs.Step.{child-within}
 use Rattle.least_laws.proofs.Unique.{least-unique}
 use Rattle.least_laws.proofs.Optimal.{IsOptimal}
@@ -131,7 +131,7 @@ module _ (net : Ducts) (falls : Falls net.next) (x : Side) where
           let sum = (joined-some net.next (Fan x) h net.count bound.y bound.is).sum in
           let whole = beyond-fan net.next falls (price net f) net.count x in
           let equal : total (λ r. gated (same (net.next r) (Fan x)) (value (h r))) net.count
-              ≡ total (λ r. gated (same (net.next r) (Fan x)) (price_sum net f (At r))) net.count =
+          ≡ total (λ r. gated (same (net.next r) (Fan x)) (price_sum net f (At r))) net.count =
           total-cong _ _ net.count (λ r less. gated-cong (same (net.next r) (Fan x)) _ _ (λ beside.
           let root = same-true (net.next r) (Fan x) beside in
           ap value (least-unique net r 0 b (leasts r 0 b) (Some (price_sum net f (At r)))

@@ -1,13 +1,13 @@
 -- The least of a side, as a sum over places.
-use Rattle.std.proofs.Common.{◌≡◌, ℕ, ◌+◌, ◌<◌, refl, arith, ap, sym, ◌∙◌, Option, Some}
+use Rattle.std.proofs.Common.{◌≡◌, ℕ, ◌<◌, arith, ap, sym, ◌∙◌}
 use Rattle.duct_units.specs.declared.side.Side.{Side}
-use Rattle.duct_definitions.specs.Tree.{IsTree, section_count, roots}
+use Rattle.duct_definitions.specs.Tree.{IsTree, section_count}
 use Rattle.duct_definitions.specs.Network.{Network, columns, columns_beside}
 use Rattle.tree_sums.specs.Route.{Fan}
-use Rattle.least_laws.specs.Prices.{both_of, sum_of}
+use Rattle.least_laws.specs.Prices.{sum_of}
 use Rattle.least_laws.specs.LeastIn.{least_in}
 use Rattle.least_laws.specs.Choosing.{side_least}
-use Rattle.least_laws.proofs.Ducts.{Ducts, AreLeastSums}
+use Rattle.least_laws.proofs.Ducts.{AreLeastSums}
 use Rattle.least_laws.proofs.Side.{AreRootSums, side_sum}
 use Rattle.least_laws.proofs.TreePlaces.{next_in, neighbour-fan}
 use Rattle.least_laws.proofs.TreeLists.{roots-same}

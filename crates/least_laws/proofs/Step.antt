@@ -1,8 +1,8 @@
 -- A sizing from a section on is one from each child on, and the sizings of the children combine to one.
-use Rattle.std.proofs.Common.{◌≡◌, ℕ, ◌+◌, ◌-◌, ◌<◌, ◌≤◌, true, refl, arith, ap, sym, ◌∙◌, inl, inr, subst, Some}
+use Rattle.std.proofs.Common.{◌≡◌, ℕ, ◌+◌, ◌-◌, ◌<◌, ◌≤◌, true, arith, ap, sym, ◌∙◌, inl, inr, subst, Some}
 use Rattle.duct_definitions.specs.declared.design.Pair.{Pair}
 use Rattle.duct_definitions.specs.Designs.{loss_of, price_of}
-use Rattle.tree_sums.specs.Route.{Place, At, same, Falls, goes_by}
+use Rattle.tree_sums.specs.Route.{At, same, Falls, goes_by}
 use Rattle.tree_sums.specs.Sums.{gated, total, beyond, along}
 use Rattle.tree_sums.proofs.Totals.{total-cong}
 use Rattle.tree_sums.proofs.Places.{same-true, gated-cong}

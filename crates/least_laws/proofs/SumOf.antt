@@ -1,5 +1,5 @@
 -- The sum of the prices in a list: one more price, and one more list.
-use Rattle.std.proofs.Common.{◌≡◌, ℕ, zero, suc, ◌+◌, refl, arith, ap, sym, ◌∙◌, cond, Bool, true, false, Option, Some, None, List, [], ◌∷◌, ◌++◌}
+use Rattle.std.proofs.Common.{◌≡◌, ℕ, zero, suc, ◌+◌, refl, arith, ap, sym, ◌∙◌, cond, true, false, Option, Some, None, List, [], ◌∷◌, ◌++◌}
 use Rattle.std.specs.Prelude.{filter}
 use Rattle.std.specs.List.{range_with_len}
 use Rattle.tree_sums.specs.Route.{Place, same}
@@ -49,10 +49,10 @@ joined-sum_of next o price zero = refl
 joined-sum_of next o price (suc n) =
     let so_far : List ℕ = filter (λ c. same (next c) o) (range_with_len 0 n) in
     let last : cond (same (next n) o) (both_of (joined next o price n) (price n)) (joined next o price n)
-        ≡ sum_of price (so_far ++ cond (same (next n) o) (n ∷ []) []) =
+    ≡ sum_of price (so_far ++ cond (same (next n) o) (n ∷ []) []) =
     elim (same (next n) o) as
     (λ b. cond b (both_of (joined next o price n) (price n)) (joined next o price n)
-        ≡ sum_of price (so_far ++ cond b (n ∷ []) [])) [
+    ≡ sum_of price (so_far ++ cond b (n ∷ []) [])) [
       | true ↦ ap (λ z. both_of z (price n)) (joined-sum_of next o price n) ∙ sym (sum_of-last price so_far n)
       | false ↦ joined-sum_of next o price n
           ∙ sym (sum_of-append price so_far [] ∙ both_of-zero (sum_of price so_far))

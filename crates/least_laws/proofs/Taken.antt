@@ -1,21 +1,20 @@
 -- A design whose sizes are taken first from the fan outwards, as sizes over places.
-use Rattle.std.proofs.Common.{◌≡◌, ℕ, ◌+◌, ◌-◌, ◌<◌, ◌≤◌, true, refl, arith, ap, sym, ◌∙◌, subst, inl, inr, Option, Some, None, List, []}
+use Rattle.std.proofs.Common.{◌≡◌, ℕ, ◌+◌, ◌-◌, ◌<◌, refl, arith, ap, sym, ◌∙◌, subst, Option, Some, None, []}
 use Rattle.std.proofs.lemmas.List.Sums.{sum_by-cons}
 use Rattle.std.specs.Prelude.{IsSome, is_some, slice_index, sum_by}
 use Rattle.duct_units.specs.declared.side.Side.{Side}
 use Rattle.duct_definitions.specs.declared.design.Design.{Design}
 use Rattle.duct_definitions.specs.Tree.{IsTree, section_count, neighbour, side, way}
-use Rattle.duct_definitions.specs.Network.{Network, size_count, columns, columns_beside}
+use Rattle.duct_definitions.specs.Network.{Network, columns, columns_beside}
 use Rattle.duct_definitions.specs.Designs.{size_beside, pair_of, loss_of, path_loss}
 use Rattle.duct_definitions.proofs.TreeLaws.{earlier}
 use Rattle.design_laws.proofs.Ways.{way-at_fan, way-beside, neighbour_side}
-use Rattle.tree_sums.specs.Route.{Place, Fan, At}
-use Rattle.least_laws.specs.LeastIn.{least_with, least_from, least_in}
+use Rattle.least_laws.specs.LeastIn.{least_in}
 use Rattle.least_laws.specs.Choosing.{Attains, left_beside, IsDescent}
-use Rattle.least_laws.proofs.Ducts.{Ducts, size_at, loss, sum_with, sum_from}
+use Rattle.least_laws.proofs.Ducts.{loss, sum_from}
 use Rattle.least_laws.proofs.Optimal.{AttainsSum}
 use Rattle.least_laws.proofs.Descent.{IsLeft, TakesFirst}
-use Rattle.least_laws.proofs.TreePlaces.{place_of, next_in, neighbour-at, neighbour-fan, neighbour-within}
+use Rattle.least_laws.proofs.TreePlaces.{neighbour-at, neighbour-fan}
 use Rattle.least_laws.proofs.DuctsOf.{ducts_of, sum_with-least_with, sum_from-least_from}
 use Rattle.least_laws.proofs.Leasts.{least_in-step}
 use Rattle.least_laws.proofs.DesignSizes.{sizes_in, size_at-beside, chosen-pair_of}

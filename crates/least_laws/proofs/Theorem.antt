@@ -1,18 +1,16 @@
 -- The least of a section is computed from the leasts of its children.
-use Rattle.std.proofs.Common.{◌≡◌, ℕ, zero, suc, ◌+◌, ◌-◌, ◌<◌, ◌≤◌, true, false, refl, arith, ap, sym, ◌∙◌, ◌≢◌, ◌⊎◌, inl, inr, subst, Option, Some, None}
-use Rattle.std.proofs.lemmas.Bool.Decides.{eqb_tells, leb_tells}
+use Rattle.std.proofs.Common.{◌≡◌, ℕ, suc, ◌+◌, ◌-◌, ◌<◌, ◌≤◌, true, false, refl, arith, ap, sym, ◌∙◌, inl, inr, subst, Option, Some, None}
+use Rattle.std.proofs.lemmas.Bool.Decides.{leb_tells}
 use Rattle.duct_definitions.specs.declared.design.Pair.{Pair}
 use Rattle.duct_definitions.specs.Designs.{loss_of, price_of}
-use Rattle.tree_sums.specs.Route.{Place, At, same, Falls, goes_by}
-use Rattle.tree_sums.specs.Sums.{gated, total, beyond, along}
+use Rattle.tree_sums.specs.Route.{At, same, Falls}
+use Rattle.tree_sums.specs.Sums.{gated, total}
 use Rattle.tree_sums.proofs.Totals.{total-cong, total-le}
 use Rattle.tree_sums.proofs.Places.{same-refl, same-true, gated-cong}
-use Rattle.tree_sums.proofs.Split.{beyond-section}
-use Rattle.tree_sums.proofs.Along.{along-split, along-self}
-use Rattle.tree_sums.proofs.Beyond.{goes_by-from, goes_by-self, beyond-cases}
+use Rattle.tree_sums.proofs.Beyond.{goes_by-self}
 use Rattle.least_laws.specs.Prices.{least_below, both_of}
-use Rattle.least_laws.proofs.Ducts.{Ducts, size_at, chosen, loss, price, IsEnd, IsBeside, IsSizing, price_sum, IsLeastSum, joined, sum_with, sum_from, AreLeastSums}
-use Rattle.least_laws.proofs.LeastBelow.{value, IsLeastBelow, least_below-none, least_below-some}
+use Rattle.least_laws.proofs.Ducts.{Ducts, size_at, loss, price, IsBeside, IsSizing, price_sum, IsLeastSum, joined, sum_with, sum_from, AreLeastSums}
+use Rattle.least_laws.proofs.LeastBelow.{value, least_below-none, least_below-some}
 use Rattle.least_laws.proofs.Joined.{IsJoined, joined-none, joined-some}
 use Rattle.least_laws.proofs.WithPair.{with_pair-is, made}
 use Rattle.least_laws.proofs.Ends.{loss-fits, price_sum-split}
@@ -55,7 +53,7 @@ module _ (net : Ducts) (falls : Falls net.next) (leasts : ℕ → ℕ → ℕ �
       let fits : p.loss ≤ b = (let most = loss-fits net falls s b f within sizing in omega arith) in
       let r : ℕ = b - p.loss in
       let each : (c : ℕ) → c < net.count → net.next c ≡ At s
-          → (y : ℕ) × (leasts c (f s) r ≡ Some y) × (y ≤ price_sum net f (At c)) =
+      → (y : ℕ) × (leasts c (f s) r ≡ Some y) × (y ≤ price_sum net f (At c)) =
       λ c less child. bound-child f r c in_range less child
       (subst (λ z. IsSizing net (At c) z f) (ap (λ z. b - z) lost) (sizing-child net falls s c b f child sizing)) in
       let h : ℕ → Option ℕ = λ c. leasts c (f s) r in
@@ -128,14 +126,14 @@ module _ (net : Ducts) (falls : Falls net.next) (leasts : ℕ → ℕ → ℕ �
         sizing = λ c less child. ((all c).is less child).1;
       } in
       let parts : total (λ c. gated (same (net.next c) (At s)) (price_sum net (G c) (At c))) net.count
-          ≡ total (λ c. gated (same (net.next c) (At s)) (value (leasts c k r))) net.count =
+      ≡ total (λ c. gated (same (net.next c) (At s)) (value (leasts c k r))) net.count =
       total-cong _ _ net.count (λ c less. gated-cong (same (net.next c) (At s)) _ _
       (λ child. ((all c).is less (same-true (net.next c) (At s) child)).2)) in (
         combined net.next s k g G net.count,
         combined-beside net.next falls s G k g net.count fan,
         combined-sizing net falls s k g b m.p G within in_range fan m.pair m.fits are,
         combined-price net falls s k g r G are m.p within fan m.pair
-        ∙ ap (λ z. m.p.price + z) (parts ∙ sym sum.sum) ∙ m.sum,
+            ∙ ap (λ z. m.p.price + z) (parts ∙ sym sum.sum) ∙ m.sum,
       )
 
   pub least-step : (g b : ℕ) → IsBeside net s g → IsLeastSum net s g b (sum_from net leasts s g b)

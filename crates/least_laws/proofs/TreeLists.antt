@@ -1,19 +1,19 @@
 -- The lists of a tree, as tests of places: children, roots, the sections beyond a section, and the leaves beyond it.
-use Rattle.std.proofs.Common.{◌≡◌, ◌≢◌, ℕ, zero, suc, ◌+◌, ◌<◌, ◌≤◌, Bool, true, false, refl, arith, ap, sym, ◌∙◌, cond, inl, inr, subst, Option, Some, None, List, [], ◌∷◌, ◌++◌, length}
-use Rattle.std.proofs.lemmas.Bool.{and_parts, and_from, eqb-true, eq-eqb, lt-ltb, ltb-true, both_ways}
+use Rattle.std.proofs.Common.{◌≡◌, ◌≢◌, ℕ, zero, suc, ◌<◌, Bool, true, false, refl, arith, ap, sym, ◌∙◌, cond, inl, inr, subst, Option, Some, None, List, [], ◌∷◌, ◌++◌, length}
+use Rattle.std.proofs.lemmas.Bool.{and_parts, and_from, eqb-true, eq-eqb, lt-ltb}
 use Rattle.std.proofs.lemmas.List.Elements.{All-nil, All-cons, All-head, All-tail}
-use Rattle.std.specs.Prelude.{◌&&◌, ◌==◌, All, filter, nat_lt, is_none}
+use Rattle.std.specs.Prelude.{◌&&◌, ◌==◌, All, filter, is_none}
 use Rattle.std.specs.List.{range_with_len}
 use Rattle.duct_units.specs.declared.side.Side.{Side}
 use Rattle.duct_units.specs.declared.side.Side.TheVariants.{Supply, Return}
-use Rattle.duct_definitions.specs.Tree.{Tree, IsTree, section_count, sections, neighbour, side, same_side, is_number, children, is_leaf, is_root, roots, leaves, way, passes}
+use Rattle.duct_definitions.specs.Tree.{Tree, IsTree, section_count, sections, neighbour, side, same_side, is_number, children, is_leaf, is_root, roots, way, passes}
 use Rattle.duct_definitions.specs.Dampers.{leaves_beyond}
 use Rattle.duct_definitions.specs.Least.{sections_beyond}
 use Rattle.design_laws.proofs.Among.{Among, Among-filter, Among-filtered, Among-range, below-range, list_any-among, among-list_any}
-use Rattle.design_laws.proofs.Beyond.{no_item, IsBeyond, IsBeyond-from, IsBeyond-way, Among-leaves_beyond, is_within}
-use Rattle.tree_sums.specs.Route.{Place, Fan, At, same_end, same, goes_by}
-use Rattle.tree_sums.proofs.Places.{same-refl, same-true, not-true}
-use Rattle.least_laws.proofs.TreePlaces.{place_of, next_in, next_in-some, neighbour-at, passes-goes_by, filter-range_last}
+use Rattle.design_laws.proofs.Beyond.{no_item, IsBeyond-from, IsBeyond-way, Among-leaves_beyond, is_within}
+use Rattle.tree_sums.specs.Route.{Fan, At, same_end, same, goes_by}
+use Rattle.tree_sums.proofs.Places.{same-true, not-true}
+use Rattle.least_laws.proofs.TreePlaces.{place_of, next_in, neighbour-at, passes-goes_by, filter-range_last}
 
 pub All-among : {X : Type 0} (P : X → Type 0) (x : X) (xs : List X) → All P xs → Among x xs → P x
 All-among P x [] all among = absurd among

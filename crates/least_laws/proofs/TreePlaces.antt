@@ -1,6 +1,6 @@
 -- A tree of sections, as what stands next to each section: ways are routes, and sums over the sections of a way or
 -- beyond a section are sums along a route or beyond a place.
-use Rattle.std.proofs.Common.{◌≡◌, ℕ, zero, suc, ◌+◌, ◌<◌, ◌≤◌, Bool, true, false, refl, arith, ap, sym, ◌∙◌, cond, inl, inr, subst, Option, Some, None, List, [], ◌∷◌, ◌++◌, ◌||◌, length}
+use Rattle.std.proofs.Common.{◌≡◌, ℕ, zero, suc, ◌+◌, ◌<◌, Bool, true, false, refl, arith, ap, sym, ◌∙◌, cond, inl, inr, subst, Option, Some, None, List, [], ◌∷◌, ◌++◌, ◌||◌}
 use Rattle.std.proofs.lemmas.Bool.Decides.{leb_tells}
 use Rattle.std.proofs.lemmas.List.Elements.{filter-append}
 use Rattle.std.proofs.lemmas.List.Sums.{sum_by-cons, sum_by-append}
@@ -8,13 +8,13 @@ use Rattle.std.proofs.lemmas.Option.{slice_get_past}
 use Rattle.std.specs.Prelude.{◌==◌, filter, sum_by, unwrap_or}
 use Rattle.std.specs.List.{range_with_len, list_any}
 use Rattle.duct_units.specs.declared.side.Side.{Side}
-use Rattle.duct_definitions.specs.Tree.{Tree, IsTree, section_count, sections, neighbour, side, way, passes}
+use Rattle.duct_definitions.specs.Tree.{Tree, IsTree, section_count, neighbour, side, way, passes}
 use Rattle.duct_definitions.proofs.TreeLaws.{earlier}
 use Rattle.design_laws.proofs.Ways.{way-at_fan, way-beside}
 use Rattle.tree_sums.specs.Route.{Place, Fan, At, same, Falls, goes_by}
 use Rattle.tree_sums.specs.Sums.{along, total, gated}
 use Rattle.tree_sums.proofs.Climb.{climb}
-use Rattle.tree_sums.proofs.Places.{same-refl, same-true, same-sym, at-number, or-false, not-true}
+use Rattle.tree_sums.proofs.Places.{same-true, same-sym, at-number, not-true}
 use Rattle.tree_sums.proofs.Split.{goes_by-fan, goes_by-at, goes_by-le}
 use Rattle.tree_sums.proofs.Along.{along-fan, along-self, along-on}
 use Rattle.tree_sums.proofs.Beyond.{first-step}
@@ -110,7 +110,7 @@ module _ (t : Tree) (tree : IsTree t) where
   sum_by-way w s =
       climb (next_in t) (next_in-falls t tree)
       (λ x. goes_by (next_in t) (At s) x ≡ true
-          → sum_by w (filter (passes t s) (way t x)) ≡ along (next_in t) w (At s) x)
+      → sum_by w (filter (passes t s) (way t x)) ≡ along (next_in t) w (At s) x)
       (λ x y is by.
       ap (λ xs. sum_by w (filter (passes t s) xs)) (way-at_fan t x (neighbour-fan t x y is).0)
       ∙ ap (λ b. sum_by w (cond b (x ∷ []) [])) (passes-goes_by s x ∙ by)

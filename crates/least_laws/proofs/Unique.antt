@@ -1,11 +1,11 @@
 -- The least is one value, and depends on the pairs of the section and of what lies beyond it alone.
-use Rattle.std.proofs.Common.{◌≡◌, ℕ, ◌<◌, ◌≤◌, true, refl, arith, ap, sym, ◌∙◌, Option, Some, None}
+use Rattle.std.proofs.Common.{◌≡◌, ℕ, ◌<◌, true, refl, arith, ap, sym, ◌∙◌, Option, Some, None}
 use Rattle.duct_definitions.specs.declared.design.Pair.{Pair}
 use Rattle.duct_definitions.specs.Designs.{loss_of, price_of}
 use Rattle.tree_sums.specs.Route.{At, Falls, goes_by}
 use Rattle.tree_sums.specs.Sums.{along}
 use Rattle.tree_sums.proofs.Beyond.{along-cong, beyond-cong}
-use Rattle.least_laws.proofs.Ducts.{Ducts, size_at, chosen, loss, price, IsSizing, price_sum, IsLeastSum}
+use Rattle.least_laws.proofs.Ducts.{Ducts, size_at, loss, price, IsSizing, price_sum, IsLeastSum}
 
 pub least-unique : (net : Ducts) (s g b : ℕ) (x y : Option ℕ) → IsLeastSum net s g b x → IsLeastSum net s g b y → x ≡ y
 least-unique net s g b None None one other = refl

@@ -1,5 +1,5 @@
 -- What the price of a pair and of the rest is made of.
-use Rattle.std.proofs.Common.{◌≡◌, ℕ, zero, suc, ◌+◌, ◌-◌, ◌<◌, ◌≤◌, min, Bool, true, false, refl, arith, ap, sym, ◌∙◌, cond, inl, inr, subst, Option, Some, None}
+use Rattle.std.proofs.Common.{◌≡◌, ℕ, ◌+◌, ◌-◌, ◌≤◌, refl, arith, ap, sym, ◌∙◌, cond, inl, inr, Option, Some, None}
 use Rattle.std.proofs.lemmas.Bool.Decides.{leb_tells}
 use Rattle.duct_definitions.specs.declared.design.Pair.{Pair}
 use Rattle.least_laws.specs.Prices.{both_of, with_pair}

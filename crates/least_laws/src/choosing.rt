@@ -26,7 +26,7 @@ pub fn descent_is_best()
 pub fn no_cost_no_design()
     ensures { (net : Network) → IsTree net.tree
         → ((fan budget : ℕ) → IsOffered net fan budget
-            → cost_at net (side_least net Supply) (side_least net Return) fan budget ≡ None)
+        → cost_at net (side_least net Supply) (side_least net Return) fan budget ≡ None)
         → NoneMeets net }
 {}
 
