@@ -4,9 +4,10 @@
 //! Pressures and losses are in dPa, money in cents. Each theorem is the contract of a call that has nothing to do.
 #![tactic(auto)]
 
-ghost use Rattle.std.specs.Prelude.{◌≡◌, []};
+ghost use Rattle.std.specs.Prelude.{◌≡◌, [], Some, None};
 ghost use Rattle.duct_definitions.specs.Designs.{Meets};
 ghost use Rattle.duct_definitions.specs.DesignText.{text, listed, none_text};
+ghost use Rattle.duct_definitions.specs.Least.{IsLeast};
 ghost use Rattle.duct_definitions.specs.Network.{IsNetwork};
 ghost use Rattle.duct_definitions.specs.Order.{IsBest, NoneMeets};
 ghost use Rattle.worked_designs.specs.OneSection;
@@ -108,4 +109,13 @@ pub fn low_velocity()
     ensures valid { IsNetwork LowVelocity.network }
     ensures none { NoneMeets LowVelocity.network }
     ensures printed { none_text LowVelocity.network.name LowVelocity.refusals ≡ LowVelocity.printed }
+{}
+
+/// Within a smaller budget the main section and its branches cost more: main loses 109 dPa and the right branch 283,
+/// so below 392 dPa there is no choice, and the cheaper size of the left branch, which loses 487, wants 596 dPa.
+pub fn small_system_within_budgets()
+    ensures too_little { IsLeast SmallSystem.network 0 0 391 None }
+    ensures enough { IsLeast SmallSystem.network 0 0 392 (Some 107400) }
+    ensures not_yet { IsLeast SmallSystem.network 0 0 595 (Some 107400) }
+    ensures more { IsLeast SmallSystem.network 0 0 596 (Some 102400) }
 {}
