@@ -23,7 +23,7 @@ pressure-le-cap net i within = each-le (λ fan. fan.pressure) 0 i net.fans withi
 
 module _ (net : Network) (supply other back again : ℕ → Option ℕ)
     (one : (b : ℕ) → b ≤ cap net → supply b ≡ other b) (two : (b : ℕ) → b ≤ cap net → back b ≡ again b) where
-  cost_at-agrees : (i b : ℕ) → IsOffered net i b → cost_at net supply back i b ≡ cost_at net other again i b
+  pub cost_at-agrees : (i b : ℕ) → IsOffered net i b → cost_at net supply back i b ≡ cost_at net other again i b
   cost_at-agrees i b offered =
       let most = pressure-le-cap net i offered.in_range in
       let within = offered.within in

@@ -31,40 +31,40 @@ module _ (net : Ducts) (falls : Falls net.next) (leasts : ℕ → ℕ → ℕ �
   attaining-optimal : (f left : ℕ → ℕ) → IsLeft net budget f left
       → ((t : ℕ) → t < net.count → AttainsSum net leasts t (size_at f (net.next t)) (left t) (f t))
       → (k t : ℕ) → t < net.count → net.count ≤ t + k → IsOptimal net t (size_at f (net.next t)) (left t) f
-  attaining-optimal f left leaves attains zero t within enough = absurd (omega arith)
-  attaining-optimal f left leaves attains (suc k) t within enough =
+  attaining-optimal f left remains attains zero t within enough = absurd (omega arith)
+  attaining-optimal f left remains attains (suc k) t within enough =
       optimal-joins net falls leasts t within (known t within) (size_at f (net.next t)) (left t) (beside-fan f t) f refl
       (record {
         attains = attains t within;
         child = λ c less child.
             let before = falls c t child in
-            let optimal = attaining-optimal f left leaves attains k c less (omega arith) in
+            let optimal = attaining-optimal f left remains attains k c less (omega arith) in
             subst (λ g. IsOptimal net c g (left t - loss net f t) f) (ap (size_at f) child)
-            (subst (λ r. IsOptimal net c (size_at f (net.next c)) r f) (leaves.more c t less child) optimal);
+            (subst (λ r. IsOptimal net c (size_at f (net.next c)) r f) (remains.more c t less child) optimal);
       })
 
   pub first-best : (f left : ℕ → ℕ) → IsLeft net budget f left → TakesFirst net leasts left f
       → IsBestSizing net budget f
-  first-best f left leaves takes x r less root =
+  first-best f left remains takes x r less root =
       subst (λ g. IsOptimal net r g (budget x) f) (beside-fan f r x root)
-      (subst (λ b. IsOptimal net r (size_at f (net.next r)) b f) (leaves.fan r x less root)
-      (attaining-optimal f left leaves takes.attains net.count r less (omega arith)))
+      (subst (λ b. IsOptimal net r (size_at f (net.next r)) b f) (remains.fan r x less root)
+      (attaining-optimal f left remains takes.attains net.count r less (omega arith)))
 
   -- a sizing that costs the least does so from each section on
   best-everywhere : (f left : ℕ → ℕ) → IsLeft net budget f left → IsBestSizing net budget f
       → (t : ℕ) → t < net.count → IsOptimal net t (size_at f (net.next t)) (left t) f
-  best-everywhere f left leaves best =
+  best-everywhere f left remains best =
       climb net.next falls (λ t. t < net.count → IsOptimal net t (size_at f (net.next t)) (left t) f)
       (λ t x is within.
       subst (λ g. IsOptimal net t g (left t) f) (sym (beside-fan f t x is))
-      (subst (λ r. IsOptimal net t 0 r f) (sym (leaves.fan t x within is)) (best x t within is)))
+      (subst (λ r. IsOptimal net t 0 r f) (sym (remains.fan t x within is)) (best x t within is)))
       (λ t p is rest within.
       let before = falls t p is in
       let inside : p < net.count = omega arith in
       let divided = optimal-divides net falls leasts p inside (known p inside) (size_at f (net.next p)) (left p)
       (beside-fan f p) f (rest inside) in
       subst (λ g. IsOptimal net t g (left t) f) (sym (ap (size_at f) is))
-      (subst (λ r. IsOptimal net t (f p) r f) (sym (leaves.more t p within is)) (divided.child t within is)))
+      (subst (λ r. IsOptimal net t (f p) r f) (sym (remains.more t p within is)) (divided.child t within is)))
 
   -- two sizings that agree below t have the same size next to t, and leave as much
   same-beside : (f g : ℕ → ℕ) (t : ℕ) → ((u : ℕ) → u < t → f u ≡ g u)

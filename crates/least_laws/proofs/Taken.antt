@@ -92,12 +92,12 @@ module _ (net : Network) (tree : IsTree net.tree) where
     descent-left = record {
       fan = λ s x less is.
           let next = neighbour-fan net.tree s x is in
-          descent.leaves s less
+          descent.remaining s less
           ∙ ap (left_beside net d left (budget (side net.tree s))) next.0
           ∙ ap budget next.1;
       more = λ s n less is.
           let next = neighbour-at net.tree s n is in
-          descent.leaves s less
+          descent.remaining s less
           ∙ ap (left_beside net d left (budget (side net.tree s))) next
           ∙ ap (λ o. left n - loss_of o) (sym (chosen-pair_of net d n));
     }

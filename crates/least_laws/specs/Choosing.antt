@@ -51,7 +51,7 @@ left_beside net d left budget (Some n) = left n - loss_of (pair_of net d n)
 -- each section of the design has the first size with the least price, within what is left of its side's budget
 pub record IsDescent (net : Network) (budget : Side → ℕ) (left : ℕ → ℕ) (d : Design) : Type 0 where
   pub sizes : length d.sizes ≡ section_count net.tree
-  pub leaves : (s : ℕ) → s < section_count net.tree
+  pub remaining : (s : ℕ) → s < section_count net.tree
       → left s ≡ left_beside net d left (budget (side net.tree s)) (neighbour net.tree s)
   pub attains : (s : ℕ) → s < section_count net.tree
       → Attains net s (size_beside d (neighbour net.tree s)) (left s) (slice_index d.sizes s)

@@ -30,10 +30,17 @@ pub fn no_cost_no_design()
         → NoneMeets net }
 {}
 
-/// What is chosen from the prices of both sides depends on the budgets up to the greatest fan pressure alone.
+/// The cost with a fan and a supply budget, and what is chosen, depend on the prices of both sides within budgets up to
+/// the greatest fan pressure alone.
 pub fn choice_depends_on_budgets_up_to_cap()
-    ensures { (net : Network) (supply other back again : ℕ → Option ℕ) (fan budget price : ℕ)
-        → ((b : ℕ) → b ≤ cap net → supply b ≡ other b) → ((b : ℕ) → b ≤ cap net → back b ≡ again b)
+    ensures cost { (net : Network) (supply other back again : ℕ → Option ℕ)
+        → ((b : ℕ) → b ≤ cap net → supply b ≡ other b)
+        → ((b : ℕ) → b ≤ cap net → back b ≡ again b)
+        → (fan budget : ℕ) → IsOffered net fan budget
+        → cost_at net supply back fan budget ≡ cost_at net other again fan budget }
+    ensures chosen { (net : Network) (supply other back again : ℕ → Option ℕ)
+        → ((b : ℕ) → b ≤ cap net → supply b ≡ other b)
+        → ((b : ℕ) → b ≤ cap net → back b ≡ again b) → (fan budget price : ℕ)
         → IsChosen net supply back fan budget price → IsChosen net other again fan budget price }
 {}
 

@@ -1,6 +1,8 @@
-use Rattle.least_laws.proofs.ChosenAgrees.{chosen_agrees}
+use Rattle.least_laws.proofs.ChosenAgrees.{cost_at-agrees, chosen_agrees}
 use Rattle.least_laws.proofs.choosing.choice_depends_on_budgets_up_to_cap.Goals as goal
 
-pub returns : goal.returns
-returns c net supply other back again fan budget price one two =
-    chosen_agrees net supply other back again one two fan budget price
+pub returns-clause-cost : goal.returns-clause-cost
+returns-clause-cost c = cost_at-agrees
+
+pub returns-clause-chosen : goal.returns-clause-chosen
+returns-clause-chosen c = chosen_agrees
