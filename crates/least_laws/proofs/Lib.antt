@@ -27,3 +27,4 @@ pub mod BestDesign
 pub mod Attained
 pub mod Loops
 pub mod ChosenAgrees
+pub mod Exact

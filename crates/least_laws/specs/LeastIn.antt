@@ -1,7 +1,7 @@
 -- The least price of a section, computed from the leasts of its children.
-use Rattle.std.specs.Prelude.{◌≡◌, ℕ, zero, suc, ◌<◌, Option, Some, None}
+use Rattle.std.specs.Prelude.{◌≡◌, ℕ, zero, suc, ◌<◌, ◌≤◌, Option, Some, None}
 use Rattle.duct_definitions.specs.Tree.{section_count, neighbour, children}
-use Rattle.duct_definitions.specs.Network.{Network, size_count, pair_at}
+use Rattle.duct_definitions.specs.Network.{Network, size_count, columns, pair_at, cap}
 use Rattle.duct_definitions.specs.Least.{IsLeast}
 use Rattle.least_laws.specs.Prices.{least_below, sum_of, with_pair}
 
@@ -28,3 +28,9 @@ abbrev pub AreLeasts : Network → ℕ → (ℕ → ℕ → ℕ → Option ℕ) 
 AreLeasts net s leasts =
     (c k rest : ℕ) → c < section_count net.tree → neighbour net.tree c ≡ Some s → k < size_count net s
     → IsLeast net c k rest (leasts c k rest)
+
+-- cheapest g b gives the least of section s beside each size g of the neighbour, within each budget b up to the
+-- greatest fan pressure
+abbrev pub IsExact : Network → ℕ → (ℕ → ℕ → Option ℕ) → Type 0
+IsExact net s cheapest =
+    (g budget : ℕ) → g < columns net s → budget ≤ cap net → IsLeast net s g budget (cheapest g budget)

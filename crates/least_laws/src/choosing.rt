@@ -1,14 +1,16 @@
 //! The way from leasts to the best design.
 
-ghost use Rattle.std.specs.Prelude.{◌≡◌, ◌-◌, ◌<◌, ◌≤◌, ℕ, Option, Some, None, IsSome};
+ghost use Rattle.std.specs.Prelude.{◌≡◌, ◌-◌, ◌*◌, ◌<◌, ◌≤◌, ℕ, Option, Some, None, IsSome, IfSome, length};
 ghost use Rattle.duct_units.specs.declared.side.Side.{Side};
 ghost use Rattle.duct_units.specs.declared.side.Side.TheVariants.{Supply, Return};
 ghost use Rattle.duct_definitions.specs.declared.design.Design.{Design};
-ghost use Rattle.duct_definitions.specs.Tree.{IsTree, section_count, neighbour, side};
-ghost use Rattle.duct_definitions.specs.Network.{Network, columns, pair_at, cap};
+ghost use Rattle.duct_definitions.specs.declared.limits.TheConstants.{MAX_PRICE};
+ghost use Rattle.duct_definitions.specs.Tree.{IsTree, section_count, neighbour, side, roots};
+ghost use Rattle.duct_definitions.specs.Network.{Network, IsNetwork, columns, pair_at, cap};
 ghost use Rattle.duct_definitions.specs.Designs.{loss_of, cost};
 ghost use Rattle.duct_definitions.specs.Order.{IsBest, NoneMeets};
-ghost use Rattle.least_laws.specs.LeastIn.{least_in};
+ghost use Rattle.least_laws.specs.Prices.{sum_of};
+ghost use Rattle.least_laws.specs.LeastIn.{least_in, IsExact};
 ghost use Rattle.least_laws.specs.Choosing.{side_least, budget_of, cost_at, IsOffered, IsChosen, Attains, IsDescent};
 
 /// With the first fan and then the least supply budget of the least cost, the design that takes at each section the
@@ -22,6 +24,18 @@ pub fn descent_is_best()
         → (left : ℕ → ℕ) → IsDescent net (budget_of net d.fan budget) left d → cost net d ≡ price }
 {}
 
+/// The exact prices of a side's roots add to the least of the side, which is at most the greatest price for each
+/// section of the network beyond each root.
+pub fn side_adds_its_roots()
+    ensures value { (net : Network) → IsTree net.tree → (x : Side) (budget : ℕ)
+        → (cheapest : ℕ → ℕ → ℕ → Option ℕ)
+        → ((s : ℕ) → s < section_count net.tree → IsExact net s (cheapest s)) → budget ≤ cap net
+        → sum_of (λ r. cheapest r 0 budget) (roots net.tree x) ≡ side_least net x budget }
+    ensures bounds { (net : Network) → IsTree net.tree → (x : Side) (budget : ℕ) → IsNetwork net
+        → IfSome (side_least net x budget)
+        (λ price. price ≤ length (roots net.tree x) * (section_count net.tree * MAX_PRICE)) }
+{}
+
 /// Where no fan with any supply budget has a cost, no design meets the rules.
 pub fn no_cost_no_design()
     ensures { (net : Network) → IsTree net.tree
@@ -30,8 +44,8 @@ pub fn no_cost_no_design()
         → NoneMeets net }
 {}
 
-/// The cost with a fan and a supply budget, and what is chosen, depend on the prices of both sides within budgets up to
-/// the greatest fan pressure alone.
+/// The cost with a fan and a supply budget, and what is chosen, depend on the prices of both sides within budgets up
+/// to the greatest fan pressure alone.
 pub fn choice_depends_on_budgets_up_to_cap()
     ensures cost { (net : Network) (supply other back again : ℕ → Option ℕ)
         → ((b : ℕ) → b ≤ cap net → supply b ≡ other b)

@@ -3,9 +3,9 @@
 ghost use Rattle.std.specs.Prelude.{◌≡◌, ◌<◌, ◌≤◌, ◌*◌, ℕ, Option, Some, IfSome, IsSomeAnd};
 ghost use Rattle.duct_definitions.specs.declared.limits.TheConstants.{MAX_PRICE};
 ghost use Rattle.duct_definitions.specs.Tree.{IsTree, section_count};
-ghost use Rattle.duct_definitions.specs.Network.{Network, IsNetwork, columns};
+ghost use Rattle.duct_definitions.specs.Network.{Network, IsNetwork, columns, cap};
 ghost use Rattle.duct_definitions.specs.Least.{IsLeast};
-ghost use Rattle.least_laws.specs.LeastIn.{least_from, least_in, AreLeasts};
+ghost use Rattle.least_laws.specs.LeastIn.{least_from, least_in, AreLeasts, IsExact};
 ghost use Rattle.least_laws.specs.SamePairs.{AgreeBeyond};
 
 /// The least of a section is the least, over its sizes, of what a size costs with the children's leasts beside it.
@@ -36,6 +36,9 @@ pub fn least_depends_on_pairs_beyond()
         → (g budget : ℕ) (o : Option ℕ) → IsLeast net s g budget o → IsLeast other s g budget o }
     ensures columns { (net other : Network) (s : ℕ) → AgreeBeyond net other s
         → (t : ℕ) → columns other t ≡ columns net t }
+    ensures exact { (net other : Network) (s : ℕ) → AgreeBeyond net other s → IsTree net.tree
+        → cap other ≡ cap net → (cheapest : ℕ → ℕ → Option ℕ)
+        → IsExact net s cheapest → IsExact other s cheapest }
 {}
 
 /// Within a greater budget a section costs no more.

@@ -9,6 +9,7 @@ mod least;
 
 pub use choosing::{
     choice_depends_on_budgets_up_to_cap, descent_goes_on, descent_is_best, no_cost_no_design,
+    side_adds_its_roots,
 };
 pub use least::{
     least_bounded, least_depends_on_pairs_beyond, least_is_one, least_never_rises, least_of_section,
