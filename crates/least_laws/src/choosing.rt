@@ -31,7 +31,7 @@ pub fn side_adds_its_roots()
         → (cheapest : ℕ → ℕ → ℕ → Option ℕ)
         → ((s : ℕ) → s < section_count net.tree → IsExact net s (cheapest s)) → budget ≤ cap net
         → sum_of (λ r. cheapest r 0 budget) (roots net.tree x) ≡ side_least net x budget }
-    ensures bounds { (net : Network) → IsTree net.tree → (x : Side) (budget : ℕ) → IsNetwork net
+    ensures bounds { (net : Network) → IsNetwork net → (x : Side) (budget : ℕ)
         → IfSome (side_least net x budget)
         (λ price. price ≤ length (roots net.tree x) * (section_count net.tree * MAX_PRICE)) }
 {}

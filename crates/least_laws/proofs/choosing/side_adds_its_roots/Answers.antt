@@ -5,4 +5,4 @@ pub returns-clause-value : goal.returns-clause-value
 returns-clause-value c = side_least-exact
 
 pub returns-clause-bounds : goal.returns-clause-bounds
-returns-clause-bounds c = side_least-le
+returns-clause-bounds c net valid x budget = side_least-le net valid.tree x budget valid
