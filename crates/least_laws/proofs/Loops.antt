@@ -1,5 +1,5 @@
 -- One step of a loop that adds prices, takes the least of them, or joins a pair to a rest.
-use Rattle.std.proofs.Common.{◌≡◌, ℕ, ◌+◌, ◌-◌, ◌*◌, ◌<◌, ◌≤◌, refl, arith, ap, ◌∙◌, cond, subst, inl, inr, Option, Some, None, List, [], ◌∷◌, ◌++◌, length, take}
+use Rattle.std.proofs.Common.{◌≡◌, ℕ, ◌+◌, ◌-◌, ◌*◌, ◌<◌, ◌≤◌, refl, arith, ap, ◌∙◌, cond, subst, inl, inr, Option, Some, None, List, [], ◌∷◌, ◌++◌, length, take, get_or}
 use Rattle.std.proofs.lemmas.Bool.Decides.{leb_tells}
 use Rattle.std.proofs.lemmas.List.{take_more}
 use Rattle.std.proofs.lemmas.Option.{slice_get_within, get_or_from_slice_get}
@@ -17,6 +17,12 @@ sum_of-take price xs i x is =
     ap (sum_of price)
     (take_more xs i x (slice_get_within xs i x is) ∙ ap (λ y. take i xs ++ y ∷ []) (get_or_from_slice_get xs i x x is))
     ∙ sum_of-last price (take i xs) x
+
+-- the same by the item at a place
+pub sum_of-take_get_or : (price : ℕ → Option ℕ) (xs : List ℕ) (i d : ℕ) → i < length xs
+    → sum_of price (take (i + 1) xs) ≡ both_of (sum_of price (take i xs)) (price (get_or xs i d))
+sum_of-take_get_or price xs i d within =
+    ap (sum_of price) (take_more xs i d within) ∙ sum_of-last price (take i xs) (get_or xs i d)
 
 both_of-le : (x y : Option ℕ) (m n : ℕ) → IfSome x (λ v. v ≤ m) → IfSome y (λ v. v ≤ n)
     → IfSome (both_of x y) (λ v. v ≤ m + n)
