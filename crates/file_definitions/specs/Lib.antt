@@ -1,3 +1,4 @@
 pub mod Document
 pub mod Elements
 pub mod Reading
+pub mod Rows
