@@ -32,9 +32,10 @@ or_last-later None false n m e = refl
 pub place_of-push : (name last : List ℕ) (names : List (List ℕ)) → place_of name (names ++ last ∷ []) ≡ or_last (place_of name names) (bytes_eq last name) (length names)
 place_of-push name last [] = refl
 place_of-push name last (first ∷ names) =
-    elim (bytes_eq first name) as (λ b. cond b (Some 0) (option_map (λ p. p + 1) (place_of name (names ++ last ∷ []))) ≡ or_last (cond b (Some 0) (option_map (λ p. p + 1) (place_of name names))) (bytes_eq last name) (length (first ∷ names)))
-    [ true ↦ refl
-    | false ↦ ap (option_map (λ p. p + 1)) (place_of-push name last names) ∙ or_last-later (place_of name names) (bytes_eq last name) (length names) (length (first ∷ names)) (omega arith) ]
+    elim (bytes_eq first name) as (λ b. cond b (Some 0) (option_map (λ p. p + 1) (place_of name (names ++ last ∷ []))) ≡ or_last (cond b (Some 0) (option_map (λ p. p + 1) (place_of name names))) (bytes_eq last name) (length (first ∷ names))) [
+      | true ↦ refl
+      | false ↦ ap (option_map (λ p. p + 1)) (place_of-push name last names) ∙ or_last-later (place_of name names) (bytes_eq last name) (length names) (length (first ∷ names)) (omega arith)
+    ]
 
 is_none : (o : Option ℕ) → is_some o ≡ false → o ≡ None
 is_none None e = refl

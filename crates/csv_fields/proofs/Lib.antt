@@ -1,3 +1,0 @@
-pub mod RecordLaws
-pub mod RowLaws
-pub mod ReadingLaws

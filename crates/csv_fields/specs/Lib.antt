@@ -1,2 +1,0 @@
-pub mod RowsLeft
-pub mod RowsHeld

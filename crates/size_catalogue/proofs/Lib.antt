@@ -1,4 +1,0 @@
-pub mod PlaceLaws
-pub mod NumberLaws
-pub mod CatalogueLaws
-pub mod ReadingLaws
