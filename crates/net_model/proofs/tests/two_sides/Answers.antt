@@ -1,5 +1,0 @@
-use Rattle.std.proofs.Common.{refl}
-use Rattle.net_model.proofs.tests.two_sides.Goals as goal
-
-pub new-requires : goal.new-requires
-new-requires c = ?
