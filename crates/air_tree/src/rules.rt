@@ -1,11 +1,11 @@
 //! The rules that make a tree of neighbours and sides, tested in order.
 ghost use Rattle.std.specs.Prelude.{◌≡◌, ◌<◌, ◌≤◌, length};
 ghost use Rattle.std.specs.List.{list_any, flat_map, range_with_len};
-ghost use Rattle.duct_units.specs.Rules.{first_broken, file_fault, section_fault};
+ghost use Rattle.duct_units.specs.Rules.{first_broken};
 ghost use Rattle.duct_definitions.specs.Tree.{Tree, same_side, tree_rules, section_rules};
 
 use duct_definitions::MAX_SECTIONS;
-use duct_units::{Fault, Part, Reason, Side};
+use duct_units::{Fault, Reason, Side};
 
 /// The first rule of a tree that is broken.
 #[tactic(auto, using(duct_units::proofs::RuleLaws::append_rule))]
@@ -14,16 +14,16 @@ pub fn broken_rule(neighbours: &[Option<u32>], sides: &[Side]) -> Option<Fault>
     ensures { result ≡ first_broken (tree_rules (record { neighbours = neighbours.now; sides = sides.now })) }
 {
     if neighbours.is_empty() {
-        return Some(file_fault(Reason::Empty));
+        return Some(Fault::of_file(Reason::Empty));
     }
     if neighbours.len() > MAX_SECTIONS {
-        return Some(file_fault(Reason::TooMany));
+        return Some(Fault::of_file(Reason::TooMany));
     }
     if let Some(fault) = broken_section(neighbours, sides) {
         return Some(fault);
     }
     if !has_supply(sides) {
-        return Some(file_fault(Reason::NoSupply));
+        return Some(Fault::of_file(Reason::NoSupply));
     }
     None
 }
@@ -54,9 +54,9 @@ fn broken_at(neighbours: &[Option<u32>], sides: &[Side], s: usize) -> Option<Fau
         Some(n) => n as usize,
     };
     if s <= n {
-        Some(section_fault(s as u32 + 1, Reason::NotBefore))
+        Some(Fault::of_section(s as u32 + 1, Reason::NotBefore))
     } else if !is_same(sides[n], sides[s]) {
-        Some(section_fault(s as u32 + 1, Reason::OtherSide))
+        Some(Fault::of_section(s as u32 + 1, Reason::OtherSide))
     } else {
         None
     }
@@ -72,24 +72,4 @@ pub fn is_same(a: Side, b: Side) -> bool
     ensures { result ≡ same_side a b }
 {
     a == b
-}
-
-fn file_fault(reason: Reason) -> Fault
-    ensures { result ≡ file_fault reason }
-{
-    Fault {
-        part: Part::File,
-        place: 0,
-        reason,
-    }
-}
-
-fn section_fault(place: u32, reason: Reason) -> Fault
-    ensures { result ≡ section_fault place reason }
-{
-    Fault {
-        part: Part::Section,
-        place,
-        reason,
-    }
 }

@@ -1,5 +1,6 @@
 //! Where an input is refused, and why.
 ghost use Rattle.std.specs.Prelude.{◌≡◌};
+ghost use Rattle.duct_units.specs.Rules.{file_fault, section_fault};
 ghost use Rattle.duct_units.specs.declared.fault.ReadError.TheVariants.{NoMemory as out_of_memory, Refused as refused};
 
 use std::alloc::{AllocError, AllocFailed};
@@ -91,6 +92,30 @@ pub struct Fault {
     /// Counts from 1; 0 at a file as a whole.
     pub place: u32,
     pub reason: Reason,
+}
+
+impl Fault {
+    /// A fault of the file as a whole.
+    pub fn of_file(reason: Reason) -> Fault
+        ensures { result ≡ file_fault reason }
+    {
+        Fault {
+            part: Part::File,
+            place: 0,
+            reason,
+        }
+    }
+
+    /// A fault of a section, by its place from 1.
+    pub fn of_section(place: u32, reason: Reason) -> Fault
+        ensures { result ≡ section_fault place reason }
+    {
+        Fault {
+            part: Part::Section,
+            place,
+            reason,
+        }
+    }
 }
 
 /// Why an input was not read.

@@ -69,6 +69,15 @@ pub fn cost(net: &Network, d: &Design) -> u64
     cost
 }
 
+/// What section `s` loses and costs in the design; None where its size can't be joined to its neighbour's.
+pub fn pair_of(net: &Network, d: &Design, s: u32) -> Option<Pair>
+    requires fits { Fits net.now d.now }
+    requires section { s < section_count net.now.tree }
+    ensures { result ≡ pair_of net.now d.now s }
+{
+    net.pair(s, d.sizes.as_slice()[s as usize], size_beside(net, d, s))
+}
+
 fn is_on(net: &Network, s: u32, side: Side) -> bool
     requires { s < section_count net.now.tree }
     ensures { result ≡ same_side (side_of net.now.tree s) side }
@@ -109,15 +118,6 @@ fn price_at(net: &Network, d: &Design, s: u32) -> u64
         Some(pair) => pair.price,
         None => 0,
     }
-}
-
-/// The pair of a section in the design's sizes.
-fn pair_of(net: &Network, d: &Design, s: u32) -> Option<Pair>
-    requires fits { Fits net.now d.now }
-    requires section { s < section_count net.now.tree }
-    ensures { result ≡ pair_of net.now d.now s }
-{
-    net.pair(s, d.sizes.as_slice()[s as usize], size_beside(net, d, s))
 }
 
 /// The size of the section's neighbour; 0 at the fan.
