@@ -3,3 +3,4 @@ pub mod NameFields
 pub mod Whole
 pub mod Ceiling
 pub mod Rules
+pub mod Prices

@@ -9,7 +9,8 @@ use Rattle.duct_definitions.specs.Network.{Network, size_count, columns, pair_at
 use Rattle.duct_definitions.specs.Designs.{loss_of}
 use Rattle.design_laws.proofs.Among.{Among, Among-filter, Among-range}
 use Rattle.design_laws.proofs.Ways.{same_side-same}
-use Rattle.least_laws.specs.Prices.{both_of, sum_of}
+use Rattle.duct_units.specs.Prices.{both_of}
+use Rattle.least_laws.specs.Prices.{sum_of}
 use Rattle.least_laws.specs.LeastIn.{least_with, least_in}
 use Rattle.least_laws.specs.Choosing.{side_least, Attains}
 use Rattle.least_laws.proofs.LeastBelow.{least_below-some}

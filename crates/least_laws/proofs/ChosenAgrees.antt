@@ -4,7 +4,7 @@ use Rattle.std.specs.Prelude.{fold, slice_get, unwrap_or}
 use Rattle.duct_units.specs.declared.side.Side.TheVariants.{Return}
 use Rattle.duct_definitions.specs.declared.design.NetFan.{NetFan}
 use Rattle.duct_definitions.specs.Network.{Network, fan_at, no_fan, cap}
-use Rattle.least_laws.specs.Prices.{both_of}
+use Rattle.duct_units.specs.Prices.{both_of}
 use Rattle.least_laws.specs.Choosing.{budget_of, cost_at, IsOffered, IsChosen}
 
 start-le : (f : NetFan → ℕ) (a : ℕ) (fans : List NetFan) → a ≤ fold max a (map f fans)

@@ -8,7 +8,7 @@ use Rattle.duct_definitions.specs.Network.{Network, fan_at}
 use Rattle.duct_definitions.specs.Designs.{Meets, worst, cost}
 use Rattle.duct_definitions.specs.Order.{NoneMeets}
 use Rattle.tree_sums.specs.Route.{Fan}
-use Rattle.least_laws.specs.Prices.{both_of}
+use Rattle.duct_units.specs.Prices.{both_of}
 use Rattle.least_laws.specs.LeastIn.{least_in}
 use Rattle.least_laws.specs.Choosing.{side_least, budget_of, cost_at, IsOffered}
 use Rattle.least_laws.proofs.Ducts.{IsSizing, price_sum}

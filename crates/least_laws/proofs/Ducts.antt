@@ -6,7 +6,8 @@ use Rattle.duct_definitions.specs.declared.design.Pair.{Pair}
 use Rattle.duct_definitions.specs.Designs.{loss_of, price_of}
 use Rattle.tree_sums.specs.Route.{Place, Fan, At, same, goes_by}
 use Rattle.tree_sums.specs.Sums.{along, beyond}
-use Rattle.least_laws.specs.Prices.{least_below, both_of, with_pair}
+use Rattle.duct_units.specs.Prices.{both_of}
+use Rattle.least_laws.specs.Prices.{least_below, with_pair}
 
 -- the number of sections; of each what stands next to it, its number of sizes, and the pair of its size beside a size
 -- of its neighbour

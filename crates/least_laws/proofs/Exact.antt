@@ -8,7 +8,8 @@ use Rattle.duct_definitions.specs.Tree.{Tree, IsTree, section_count, sections, n
 use Rattle.duct_definitions.specs.Network.{Network, IsNetwork, columns, columns_beside, cap}
 use Rattle.duct_definitions.specs.Least.{IsLeast}
 use Rattle.design_laws.proofs.Among.{Among, Among-filtered}
-use Rattle.least_laws.specs.Prices.{both_of, sum_of}
+use Rattle.duct_units.specs.Prices.{both_of}
+use Rattle.least_laws.specs.Prices.{sum_of}
 use Rattle.least_laws.specs.LeastIn.{least_in, IsExact}
 use Rattle.least_laws.specs.SamePairs.{AgreeBeyond}
 use Rattle.least_laws.specs.Choosing.{side_least}

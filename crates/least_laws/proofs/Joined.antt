@@ -3,7 +3,7 @@ use Rattle.std.proofs.Common.{◌≡◌, ℕ, zero, suc, ◌+◌, ◌<◌, true,
 use Rattle.std.proofs.lemmas.Bool.Decides.{eqb_tells}
 use Rattle.tree_sums.specs.Route.{Place, same}
 use Rattle.tree_sums.specs.Sums.{gated, total}
-use Rattle.least_laws.specs.Prices.{both_of}
+use Rattle.duct_units.specs.Prices.{both_of}
 use Rattle.least_laws.proofs.Ducts.{joined}
 use Rattle.least_laws.proofs.LeastBelow.{value, some-same}
 

@@ -1,7 +1,8 @@
 -- What the least of many prices says of each.
 use Rattle.std.proofs.Common.{◌≡◌, ℕ, zero, suc, ◌<◌, ◌≤◌, min, refl, arith, ap, sym, ◌∙◌, inl, inr, subst, Option, Some, None}
 use Rattle.std.proofs.lemmas.Bool.Decides.{eqb_tells, leb_tells}
-use Rattle.least_laws.specs.Prices.{lesser, least_below}
+use Rattle.duct_units.specs.Prices.{lesser}
+use Rattle.least_laws.specs.Prices.{least_below}
 
 abbrev pub value : Option ℕ → ℕ
 value None = 0

@@ -6,7 +6,8 @@ use Rattle.std.proofs.lemmas.Option.{slice_get_within, get_or_from_slice_get}
 use Rattle.std.specs.Prelude.{slice_get, IfSome}
 use Rattle.duct_definitions.specs.declared.design.Pair.{Pair}
 use Rattle.design_laws.proofs.Among.{Among}
-use Rattle.least_laws.specs.Prices.{both_of, sum_of, with_pair}
+use Rattle.duct_units.specs.Prices.{both_of}
+use Rattle.least_laws.specs.Prices.{sum_of, with_pair}
 use Rattle.least_laws.proofs.SumOf.{sum_of-last}
 use Rattle.least_laws.proofs.WithPair.{with_pair-is}
 

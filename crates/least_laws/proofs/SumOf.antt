@@ -3,7 +3,8 @@ use Rattle.std.proofs.Common.{◌≡◌, ℕ, zero, suc, ◌+◌, refl, arith, a
 use Rattle.std.specs.Prelude.{filter}
 use Rattle.std.specs.List.{range_with_len}
 use Rattle.tree_sums.specs.Route.{Place, same}
-use Rattle.least_laws.specs.Prices.{lesser, least_below, both_of, sum_of}
+use Rattle.duct_units.specs.Prices.{lesser, both_of}
+use Rattle.least_laws.specs.Prices.{least_below, sum_of}
 use Rattle.least_laws.proofs.Ducts.{joined}
 use Rattle.least_laws.proofs.TreePlaces.{filter-range_last}
 

@@ -8,7 +8,8 @@ use Rattle.tree_sums.specs.Sums.{gated, total}
 use Rattle.tree_sums.proofs.Totals.{total-cong, total-le}
 use Rattle.tree_sums.proofs.Places.{same-refl, same-true, gated-cong}
 use Rattle.tree_sums.proofs.Beyond.{goes_by-self}
-use Rattle.least_laws.specs.Prices.{least_below, both_of}
+use Rattle.duct_units.specs.Prices.{both_of}
+use Rattle.least_laws.specs.Prices.{least_below}
 use Rattle.least_laws.proofs.Ducts.{Ducts, size_at, loss, price, IsBeside, IsSizing, price_sum, IsLeastSum, joined, sum_with, sum_from, AreLeastSums}
 use Rattle.least_laws.proofs.LeastBelow.{value, least_below-none, least_below-some}
 use Rattle.least_laws.proofs.Joined.{IsJoined, joined-none, joined-some}

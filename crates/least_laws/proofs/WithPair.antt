@@ -2,7 +2,8 @@
 use Rattle.std.proofs.Common.{◌≡◌, ℕ, ◌+◌, ◌-◌, ◌≤◌, refl, arith, ap, sym, ◌∙◌, cond, inl, inr, Option, Some, None}
 use Rattle.std.proofs.lemmas.Bool.Decides.{leb_tells}
 use Rattle.duct_definitions.specs.declared.design.Pair.{Pair}
-use Rattle.least_laws.specs.Prices.{both_of, with_pair}
+use Rattle.duct_units.specs.Prices.{both_of}
+use Rattle.least_laws.specs.Prices.{with_pair}
 use Rattle.least_laws.proofs.LeastBelow.{some-same}
 
 pub with_pair-is : (o : Option Pair) (p : Pair) (b : ℕ) (rest : ℕ → Option ℕ) → o ≡ Some p → p.loss ≤ b

@@ -7,7 +7,8 @@ use Rattle.duct_definitions.specs.declared.design.Design.{Design}
 use Rattle.duct_definitions.specs.Tree.{section_count, neighbour, side, roots}
 use Rattle.duct_definitions.specs.Network.{Network, size_count, fan_at}
 use Rattle.duct_definitions.specs.Designs.{size_beside, pair_of, loss_of}
-use Rattle.least_laws.specs.Prices.{both_of, sum_of}
+use Rattle.duct_units.specs.Prices.{both_of}
+use Rattle.least_laws.specs.Prices.{sum_of}
 use Rattle.least_laws.specs.LeastIn.{least_in, least_with}
 
 -- the least price of a side within a budget: the sum of the leasts of its roots, 0 without sections

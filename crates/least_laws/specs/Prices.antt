@@ -1,23 +1,12 @@
--- Prices that may not be there: the lesser of two, the least of many, the sum of all.
-use Rattle.std.specs.Prelude.{ℕ, zero, suc, ◌+◌, ◌-◌, min, List, [], ◌∷◌, Option, Some, None, nat_le, if◌then◌else◌}
+-- Prices that may not be there: the least of many, the sum of all.
+use Rattle.std.specs.Prelude.{ℕ, zero, suc, ◌-◌, List, [], ◌∷◌, Option, Some, None, nat_le, if◌then◌else◌}
+use Rattle.duct_units.specs.Prices.{lesser, both_of}
 use Rattle.duct_definitions.specs.declared.design.Pair.{Pair}
-
--- the lesser of two prices, or the one that is there
-abbrev pub lesser : Option ℕ → Option ℕ → Option ℕ
-lesser None y = y
-lesser (Some x) None = Some x
-lesser (Some x) (Some y) = Some (min x y)
 
 -- the least price of the numbers below n
 abbrev pub least_below : (ℕ → Option ℕ) → ℕ → Option ℕ
 least_below price zero = None
 least_below price (suc n) = lesser (least_below price n) (price n)
-
--- the sum of two prices, where both are there
-abbrev pub both_of : Option ℕ → Option ℕ → Option ℕ
-both_of None y = None
-both_of (Some x) None = None
-both_of (Some x) (Some y) = Some (x + y)
 
 -- the sum of the prices in a list, where all are there
 abbrev pub sum_of : (ℕ → Option ℕ) → List ℕ → Option ℕ

@@ -6,7 +6,8 @@ use Rattle.std.proofs.lemmas.Bool.{cases_lt}
 use Rattle.std.proofs.lemmas.List.Elements.{All-weaker, All-contains, Contains-append_left, Contains-append_right}
 use Rattle.std.proofs.lemmas.Option.{none-some}
 use Rattle.pareto_front.specs.declared.point.Point.{Point}
-use Rattle.pareto_front.specs.Front.{IsFront, NoDearer, cheapest, lesser, price_of}
+use Rattle.duct_units.specs.Prices.{lesser}
+use Rattle.pareto_front.specs.Front.{IsFront, NoDearer, cheapest, price_of}
 use Rattle.pareto_front.proofs.Costs.{lesser-left, lesser-right}
 use Rattle.pareto_front.proofs.Even.{lesser-Some}
 use Rattle.pareto_front.proofs.Falls.{option_or-Some, price_of-Some}

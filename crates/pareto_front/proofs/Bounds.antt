@@ -6,7 +6,8 @@ use Rattle.std.proofs.lemmas.Bool.{cases_lt}
 use Rattle.std.proofs.lemmas.List.Elements.{All-weaker}
 use Rattle.std.proofs.lemmas.Option.{none-some}
 use Rattle.pareto_front.specs.declared.point.Point.{Point}
-use Rattle.pareto_front.specs.Front.{IsFront, cheapest, plus, shifted, sum_of_both}
+use Rattle.duct_units.specs.Prices.{both_of}
+use Rattle.pareto_front.specs.Front.{IsFront, cheapest, plus, shifted}
 use Rattle.pareto_front.proofs.Falls.{cheapest-All}
 use Rattle.pareto_front.proofs.Needs.{NeedsWithin, within_later}
 use Rattle.pareto_front.proofs.Points.{IsPriced, front_priced, cheapest-need}
@@ -34,7 +35,7 @@ each_need ps most front stays =
     ps (front_priced ps front)
 
 -- a sum of two costs is within the sum of bounds on both
-sum_bound : (x y : Option ℕ) (u v c : ℕ) → ForSome x (λ a. a ≤ u) → ForSome y (λ a. a ≤ v) → sum_of_both x y ≡ Some c → c ≤ u + v
+sum_bound : (x y : Option ℕ) (u v c : ℕ) → ForSome x (λ a. a ≤ u) → ForSome y (λ a. a ≤ v) → both_of x y ≡ Some c → c ≤ u + v
 sum_bound None y u v c x_less y_less is = absurd (none-some c is)
 sum_bound (Some x) None u v c x_less y_less is = absurd (none-some c is)
 sum_bound (Some x) (Some y) u v c x_less y_less is =
@@ -45,14 +46,14 @@ sum_bound (Some x) (Some y) u v c x_less y_less is =
 
 -- where costs are within bounds whose sum fits, each sum of two does
 pub sums_fit : (a b : List Point) (u v : ℕ) → CostsWithin u a → CostsWithin v b → u + v < 2 ^ 64
-    → (budget : ℕ) → ForSome (sum_of_both (cheapest a budget) (cheapest b budget)) (λ cost. cost < 2 ^ 64)
+    → (budget : ℕ) → ForSome (both_of (cheapest a budget) (cheapest b budget)) (λ cost. cost < 2 ^ 64)
 sums_fit a b u v a_within b_within fits budget cost is =
     let within = sum_bound (cheapest a budget) (cheapest b budget) u v cost (price_within a budget u a_within) (price_within b budget v b_within) is in
     omega arith
 
 module _ (a b front : List Point) (is_front : IsFront front) where
   -- costs of two fronts together
-  pub sum_costs : ((budget : ℕ) → cheapest front budget ≡ sum_of_both (cheapest a budget) (cheapest b budget))
+  pub sum_costs : ((budget : ℕ) → cheapest front budget ≡ both_of (cheapest a budget) (cheapest b budget))
       → (u v : ℕ) → CostsWithin u a → CostsWithin v b → CostsWithin (u + v) front
   sum_costs prices u v a_within b_within = each_cost (λ c. c ≤ u + v) front is_front (λ budget c is.
       sum_bound (cheapest a budget) (cheapest b budget) u v c (price_within a budget u a_within) (price_within b budget v b_within)

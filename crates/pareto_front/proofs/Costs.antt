@@ -2,7 +2,8 @@
 use Rattle.std.proofs.Common.{◌≡◌, ℕ, ◌+◌, ◌<◌, ◌≤◌, Option, Some, None, refl, ap, arith, inl, inr, ◌⊎◌, min}
 use Rattle.std.specs.Prelude.{IsSomeAnd}
 use Rattle.std.specs.Option.{ForSome}
-use Rattle.pareto_front.specs.Front.{NoDearer, lesser, sum_of_both}
+use Rattle.duct_units.specs.Prices.{lesser, both_of}
+use Rattle.pareto_front.specs.Front.{NoDearer}
 
 -- the new cost is below the old one, if there is an old one
 abbrev pub Cheaper : Option ℕ → Option ℕ → Type 0
@@ -21,7 +22,7 @@ same_cost (Some u) (Some v) x_less y_less =
 
 -- a sum falls where one part does and the other doesn't rise
 pub sum_falls : (x y u v : Option ℕ) (c d : ℕ) → NoDearer x u → NoDearer y v → Cheaper x u ⊎ Cheaper y v
-    → sum_of_both x y ≡ Some c → sum_of_both u v ≡ Some d → c < d
+    → both_of x y ≡ Some c → both_of u v ≡ Some d → c < d
 sum_falls x y None v c d x_less y_less one new old = absurd (cc)
 sum_falls x y (Some u) None c d x_less y_less one new old = absurd (cc)
 sum_falls None y (Some u) (Some v) c d x_less y_less one new old = absurd (cc)
@@ -37,7 +38,7 @@ sum_falls (Some x) (Some y) (Some u) (Some v) c d x_less y_less one new old =
     ]
 
 -- where there is no sum there was none
-pub sum_was_none : (x y u v : Option ℕ) → NoDearer x u → NoDearer y v → sum_of_both x y ≡ None → sum_of_both u v ≡ None
+pub sum_was_none : (x y u v : Option ℕ) → NoDearer x u → NoDearer y v → both_of x y ≡ None → both_of u v ≡ None
 sum_was_none x y None v x_less y_less none = refl
 sum_was_none x y (Some u) None x_less y_less none = refl
 sum_was_none None y (Some u) (Some v) x_less y_less none = absurd (x_less u refl)

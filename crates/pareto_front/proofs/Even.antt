@@ -4,7 +4,8 @@ use Rattle.std.specs.Option.{ForSome}
 use Rattle.std.proofs.lemmas.Bool.{cases_lt}
 use Rattle.std.proofs.lemmas.List.Elements.{All-nil, All-cons, All-head}
 use Rattle.pareto_front.specs.declared.point.Point.{Point}
-use Rattle.pareto_front.specs.Front.{IsFront, lesser}
+use Rattle.duct_units.specs.Prices.{lesser}
+use Rattle.pareto_front.specs.Front.{IsFront}
 use Rattle.pareto_front.specs.Sweep.{NeedsFrom, IsReached, Progress, IsEven, IsReadTo, next_need}
 use Rattle.pareto_front.proofs.Needs.{below_later, from_above}
 use Rattle.pareto_front.proofs.Order.{later_above}

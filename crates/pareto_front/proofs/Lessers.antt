@@ -3,7 +3,8 @@ use Rattle.std.proofs.Common.{◌≡◌, ℕ, ◌<◌, ◌≤◌, List, [], ◌�
 use Rattle.std.specs.Option.{ForSome}
 use Rattle.pareto_front.specs.declared.point.Point.{Point}
 use Rattle.pareto_front.specs.declared.sweep.Step.{Step}
-use Rattle.pareto_front.specs.Front.{NoDearer, cheapest, lesser}
+use Rattle.duct_units.specs.Prices.{lesser}
+use Rattle.pareto_front.specs.Front.{NoDearer, cheapest}
 use Rattle.pareto_front.specs.Sweep.{Progress, Steps, cost_of, last_cost, lesser_offer}
 use Rattle.pareto_front.proofs.Costs.{lesser_falls, same_cost}
 use Rattle.pareto_front.proofs.Needs.{within_from_below}

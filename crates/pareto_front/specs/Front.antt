@@ -4,11 +4,9 @@
 --   IsBelowFirst budget front         the budget is below the first need, or the front is empty
 --   moved_by loss price point         the point that needs the loss more and costs the price more
 --   shifted front loss price budget   the cheapest at the budget less the loss, plus the price, or none
---   lesser x y                        the lesser of two costs, or the one that is there, or none
---   sum_of_both x y                   the sum of two costs where both are there, or none
 --   NoDearer new old                  the new cost is at most the old one, or there is no old one
 use Rattle.std.specs.Prelude.{ℕ, ◌+◌, ◌-◌, ◌<◌, ◌≤◌, List, [], ◌∷◌, Option, Some, None}
-use Rattle.std.specs.Prelude.{nat_le, if◌then◌else◌, min, IsSomeAnd, ⊤}
+use Rattle.std.specs.Prelude.{nat_le, if◌then◌else◌, IsSomeAnd, ⊤}
 use Rattle.std.specs.Option.{option_or, option_map, ForSome}
 use Rattle.pareto_front.specs.declared.point.Point.{Point}
 
@@ -48,18 +46,6 @@ plus price cost = option_map (λ c. c + price) cost
 abbrev pub shifted : List Point → ℕ → ℕ → ℕ → Option ℕ
 shifted front loss price budget =
     if nat_le loss budget then plus price (cheapest front (budget - loss)) else None
-
--- the lesser of two costs, or the one that is there
-abbrev pub lesser : Option ℕ → Option ℕ → Option ℕ
-lesser None y = y
-lesser (Some x) None = Some x
-lesser (Some x) (Some y) = Some (min x y)
-
--- the sum of two costs, where both are there
-abbrev pub sum_of_both : Option ℕ → Option ℕ → Option ℕ
-sum_of_both None y = None
-sum_of_both (Some x) None = None
-sum_of_both (Some x) (Some y) = Some (x + y)
 
 -- the new cost is at most the old one, if there is an old one
 abbrev pub NoDearer : Option ℕ → Option ℕ → Type 0

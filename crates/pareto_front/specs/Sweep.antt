@@ -14,7 +14,8 @@ use Rattle.std.specs.Prelude.{length, slice_get, take, drop, All}
 use Rattle.std.specs.Option.{option_map}
 use Rattle.pareto_front.specs.declared.point.Point.{Point}
 use Rattle.pareto_front.specs.declared.sweep.Step.{Step}
-use Rattle.pareto_front.specs.Front.{IsFront, cheapest, lesser, sum_of_both}
+use Rattle.duct_units.specs.Prices.{lesser, both_of}
+use Rattle.pareto_front.specs.Front.{IsFront, cheapest}
 
 pub record Progress : Type 0 where
   pub left : List Point
@@ -36,7 +37,7 @@ lesser_offer step = lesser (cost_of step.left) (cost_of step.right)
 
 -- the sum of the costs that both fronts offer
 abbrev pub sum_offer : Step → Option ℕ
-sum_offer step = sum_of_both (cost_of step.left) (cost_of step.right)
+sum_offer step = both_of (cost_of step.left) (cost_of step.right)
 
 -- the need of the next point, where i are read
 abbrev pub next_need : List Point → ℕ → Option ℕ

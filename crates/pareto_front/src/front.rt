@@ -3,7 +3,8 @@ ghost use Rattle.std.specs.Prelude.{◌≡◌, ℕ, ◌+◌, ◌<◌, ◌≤◌,
 ghost use Rattle.std.specs.Prelude.{All, Contains, IfOk, IsNone};
 ghost use Rattle.std.specs.Option.{ForSome};
 ghost use Rattle.pareto_front.specs.Front.{IsFront, IsBelowFirst};
-ghost use Rattle.pareto_front.specs.Front.{cheapest, lesser, shifted, sum_of_both};
+ghost use Rattle.duct_units.specs.Prices.{lesser, both_of};
+ghost use Rattle.pareto_front.specs.Front.{cheapest, shifted};
 
 use crate::merge::{both_points, either_points};
 use crate::parts::{last_cost, moved, points_within};
@@ -115,9 +116,9 @@ impl Front {
     /// Reserves once, the room of the points of both. What isn't filled of it stays free.
     pub fn both(alloc: Global, a: &Front, b: &Front) -> Result<Front, NoMemory>
         requires fits { (budget : ℕ) → ForSome
-            (sum_of_both (cheapest a.now budget) (cheapest b.now budget)) (λ cost. cost < 2 ^ 64) }
+            (both_of (cheapest a.now budget) (cheapest b.now budget)) (λ cost. cost < 2 ^ 64) }
         ensures value { IfOk result (λ front. (budget : ℕ) →
-            cheapest front budget ≡ sum_of_both (cheapest a.now budget) (cheapest b.now budget)) }
+            cheapest front budget ≡ both_of (cheapest a.now budget) (cheapest b.now budget)) }
         ensures needs { (most : ℕ) → All (λ point. point.need ≤ most) a.now →
             All (λ point. point.need ≤ most) b.now →
             IfOk result (λ front. All (λ point. point.need ≤ most) front) }

@@ -3,7 +3,8 @@
 //! Each call does nothing. A proof learns its clause where the call stands.
 ghost use Rattle.std.specs.Prelude.{◌≡◌, ℕ, ◌+◌, ◌<◌, ◌≤◌, ◌^◌, All, Some};
 ghost use Rattle.std.specs.Option.{ForSome};
-ghost use Rattle.pareto_front.specs.Front.{NoDearer, cheapest, sum_of_both};
+ghost use Rattle.duct_units.specs.Prices.{both_of};
+ghost use Rattle.pareto_front.specs.Front.{NoDearer, cheapest};
 
 use crate::front::Front;
 
@@ -48,5 +49,5 @@ pub fn sums_fit(a: &Front, b: &Front, x: u64, y: u64)
     requires b_bounded { All (λ point. point.cost ≤ y) b.now }
     requires bounds { x + y < 2 ^ 64 }
     ensures { (budget : ℕ) → ForSome
-        (sum_of_both (cheapest a.now budget) (cheapest b.now budget)) (λ cost. cost < 2 ^ 64) }
+        (both_of (cheapest a.now budget) (cheapest b.now budget)) (λ cost. cost < 2 ^ 64) }
 {}

@@ -1,7 +1,8 @@
 //! Two fronts in one, by one sweep over their needs.
 ghost use Rattle.std.specs.Prelude.{◌≡◌, ℕ, ◌<◌, ◌≤◌, ◌^◌, IfOk, IfSome, IfNone, Some};
 ghost use Rattle.std.specs.Option.{ForSome};
-ghost use Rattle.pareto_front.specs.Front.{IsFront, NoDearer, cheapest, lesser, sum_of_both};
+ghost use Rattle.duct_units.specs.Prices.{lesser, both_of};
+ghost use Rattle.pareto_front.specs.Front.{IsFront, NoDearer, cheapest};
 ghost use Rattle.pareto_front.specs.Sweep.{cost_of, last_cost, lesser_offer, sum_offer};
 
 use crate::parts::last_cost;
@@ -34,10 +35,10 @@ pub(crate) fn both_points(alloc: Global, a: &[Point], b: &[Point]) -> Result<Vec
     requires a_front { IsFront a.now }
     requires b_front { IsFront b.now }
     requires fits { (budget : ℕ) → ForSome
-        (sum_of_both (cheapest a.now budget) (cheapest b.now budget)) (λ cost. cost < 2 ^ 64) }
+        (both_of (cheapest a.now budget) (cheapest b.now budget)) (λ cost. cost < 2 ^ 64) }
     ensures front { IfOk result (λ v. IsFront v.items) }
     ensures prices { IfOk result (λ v. (budget : ℕ) →
-        cheapest v.items budget ≡ sum_of_both (cheapest a.now budget) (cheapest b.now budget)) }
+        cheapest v.items budget ≡ both_of (cheapest a.now budget) (cheapest b.now budget)) }
 {
     let mut points = Vec::with_capacity(alloc, a.len() + b.len())?;
     let mut sweep = Sweep::start(a, b);

@@ -1,6 +1,7 @@
 //! A sweep over the needs of two fronts, in rising order, each need once.
 ghost use Rattle.std.specs.Prelude.{◌≡◌, ◌+◌, ◌<◌, ◌≤◌, IfNone, IfSome, Some, length};
-ghost use Rattle.pareto_front.specs.Front.{IsFront, cheapest, lesser};
+ghost use Rattle.duct_units.specs.Prices.{lesser};
+ghost use Rattle.pareto_front.specs.Front.{IsFront, cheapest};
 ghost use Rattle.pareto_front.specs.Sweep.{cost_of, next_need, IsReadTo};
 
 use crate::point::Point;

@@ -14,5 +14,7 @@ loop-step-preserved c =
 
 pub loop-step-preserved-in_default-cheaper_point : goal.loop-step-preserved-in_default-cheaper_point
 loop-step-preserved-in_default-cheaper_point c =
-    let none = subst (λ (l : List Point). NoDearer (last_cost l) (lesser_offer c.in-Some.step)) c.as_slice.ensures.value c.in_default-cheaper_point.ensures.none in
-    Swept-no_lesser c.loop-step.invariant c.in-Some.ensures.some none
+    let step = c.in-Some.step in
+    let none = c.in_default-cheaper_point.ensures.none in
+    let no_dearer = subst (λ (l : List Point). NoDearer (last_cost l) (lesser_offer step)) c.as_slice.ensures.value none in
+    Swept-no_lesser c.loop-step.invariant c.in-Some.ensures.some no_dearer

@@ -1,4 +1,4 @@
-use Rattle.pareto_front.specs.Front.{lesser}
+use Rattle.duct_units.specs.Prices.{lesser}
 use Rattle.pareto_front.specs.Sweep.{points_left}
 use Rattle.pareto_front.proofs.Swept.{Swept}
 use Rattle.pareto_front.proofs.merge.either_points.Given as goal

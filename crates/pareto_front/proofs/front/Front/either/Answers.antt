@@ -1,5 +1,6 @@
 use Rattle.std.proofs.Common.{sym, ap, subst, ◌∙◌}
-use Rattle.pareto_front.specs.Front.{IsFront, cheapest, lesser}
+use Rattle.duct_units.specs.Prices.{lesser}
+use Rattle.pareto_front.specs.Front.{IsFront, cheapest}
 use Rattle.pareto_front.proofs.Among.{lesser_among}
 use Rattle.pareto_front.proofs.front.Front.either.Goals as goal
 

@@ -1,6 +1,6 @@
 use Rattle.std.proofs.Common.{◌≡◌, Some, subst}
 use Rattle.pareto_front.specs.declared.sweep.Step.{Step}
-use Rattle.pareto_front.specs.Front.{lesser}
+use Rattle.duct_units.specs.Prices.{lesser}
 use Rattle.pareto_front.specs.Sweep.{next_need, Progress, Steps}
 use Rattle.pareto_front.specs.SweepFields.{progress_of}
 use Rattle.pareto_front.proofs.Even.{IsEven-reaches}
