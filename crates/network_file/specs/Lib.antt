@@ -1,0 +1,7 @@
+pub mod TopTable
+pub mod FanTables
+pub mod SectionTables
+pub mod Neighbours
+pub mod Pairs
+pub mod NetworkFile
+pub mod Seen

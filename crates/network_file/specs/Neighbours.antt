@@ -1,0 +1,41 @@
+-- The neighbours of the sections of a network file, by name and by number.
+use Rattle.std.specs.Prelude.{ℕ, ◌+◌, List, [], ◌∷◌, ◌++◌, map, length, Bool, true, Option, Some, None, option_and_then}
+use Rattle.duct_units.specs.declared.fault.Reason.TheVariants.{UnknownNeighbour}
+use Rattle.duct_units.specs.Rules.{Rule, at_section}
+use Rattle.duct_definitions.specs.Tree.{Tree, tree_rules}
+use Rattle.name_index.specs.Places.{place_of, is_among}
+use Rattle.file_definitions.specs.Elements.{each}
+use Rattle.network_file.specs.SectionTables.{SectionEntry}
+
+abbrev pub entry_names : List SectionEntry → List (List ℕ)
+entry_names sections = map (λ section. section.name) sections
+
+-- the number of the neighbour among the sections of these names; none at the fan
+abbrev pub neighbour_among : List (List ℕ) → Option (List ℕ) → Option ℕ
+neighbour_among names neighbour = option_and_then (λ name. place_of name names) neighbour
+
+abbrev pub neighbour_of : List SectionEntry → SectionEntry → Option ℕ
+neighbour_of sections section = neighbour_among (entry_names sections) section.neighbour
+
+-- some section has the neighbour's name
+abbrev pub is_known : List (List ℕ) → Option (List ℕ) → Bool
+is_known names None = true
+is_known names (Some name) = is_among name names
+
+-- the n-th section's neighbour is at the fan, or one of these
+abbrev pub known_rules : List (List ℕ) → ℕ → Option (List ℕ) → List Rule
+known_rules names n neighbour = at_section n (is_known names neighbour) UnknownNeighbour ∷ []
+
+abbrev pub neighbour_rules : List SectionEntry → List SectionEntry → SectionEntry → List Rule
+neighbour_rules sections before section = known_rules (entry_names sections) (length before + 1) section.neighbour
+
+-- each neighbour is a section, which may stand earlier or later
+abbrev pub neighbours_rules : List SectionEntry → List Rule
+neighbours_rules sections = each (neighbour_rules sections) sections
+
+abbrev pub tree_of : List SectionEntry → Tree
+tree_of sections = record { neighbours = map (neighbour_of sections) sections; sides = map (λ section. section.side) sections }
+
+-- each neighbour is a section, and together they are a tree
+abbrev pub trees_rules : List SectionEntry → List Rule
+trees_rules sections = neighbours_rules sections ++ tree_rules (tree_of sections)

@@ -1,0 +1,52 @@
+//! The neighbours of the sections.
+ghost use Rattle.std.specs.Prelude.{◌≡◌, ◌≤◌, length, map};
+ghost use Rattle.duct_units.specs.Rules.{Gives, unless_refused, first_broken};
+ghost use Rattle.network_file.specs.Neighbours.{neighbours_rules, neighbour_of, neighbour_among, known_rules, entry_names};
+ghost use Rattle.network_file.specs.Seen.{entry_seen};
+
+use crate::sections::SectionTable;
+use duct_definitions::MAX_SECTIONS;
+use duct_units::{Fault, List, Name, ReadError, Reason};
+use name_index::NameIndex;
+use std::alloc::Global;
+
+/// Of each section the number of its neighbour, or the first neighbour that is no section.
+pub(crate) fn read_neighbours(
+    alloc: Global,
+    sections: &[SectionTable],
+    names: &NameIndex,
+) -> Result<List<Option<u32>>, ReadError>
+    requires few { length sections.now ≤ MAX_SECTIONS }
+    requires names { names.now ≡ entry_names (map entry_seen sections.now) }
+    ensures { let entries = map entry_seen sections.now in
+        Gives result (unless_refused (first_broken (neighbours_rules entries)) (map (neighbour_of entries) entries)) }
+{
+    let mut neighbours = Vec::with_capacity(alloc, sections.len()).map_err(
+        |_| ReadError::NoMemory,
+    )?;
+    for i in 0..sections.len() {
+        let neighbour = find_neighbour(&sections[i].neighbour, names, i as u32 + 1)?;
+        if neighbours.push(neighbour).is_err() {
+            return Err(ReadError::NoMemory);
+        }
+    }
+    Ok(List::from_vec(neighbours))
+}
+
+/// The number of the neighbour; none at the fan.
+fn find_neighbour(
+    neighbour: &Option<Name>,
+    names: &NameIndex,
+    place: u32,
+) -> Result<Option<u32>, Fault>
+    requires { length names.now ≤ MAX_SECTIONS }
+    ensures { result ≡ unless_refused (first_broken (known_rules names.now place neighbour.now)) (neighbour_among names.now neighbour.now) }
+{
+    let Some(name) = neighbour else {
+        return Ok(None);
+    };
+    match names.find(name) {
+        Some(n) => Ok(Some(n as u32)),
+        None => Err(Fault::of_section(place, Reason::UnknownNeighbour)),
+    }
+}

@@ -1,0 +1,134 @@
+//! The tables of the sections.
+ghost use Rattle.std.specs.Prelude.{◌≡◌, ◌≤◌, length, map, IfOk};
+ghost use Rattle.toml.specs.View.{table_view};
+ghost use Rattle.duct_units.specs.Rules.{unless_refused, first_broken};
+ghost use Rattle.file_definitions.specs.Elements.{each};
+ghost use Rattle.file_definitions.specs.Reading.{GivesAs, ReadsAs};
+ghost use Rattle.toml_fields.specs.Kinds.{tables_in};
+ghost use Rattle.network_file.specs.SectionTables.{sections_rules, section_rules, section_table_rules, entry_of, side_at, neighbour_at};
+ghost use Rattle.network_file.specs.Neighbours.{entry_names};
+ghost use Rattle.network_file.specs.Seen.{entry_seen, sections_seen};
+
+use duct_definitions::MAX_SECTIONS;
+use duct_units::{Fault, Name, ReadError, Reason, Side};
+use name_index::NameIndex;
+use std::alloc::Global;
+use toml::Table;
+use toml_fields::{Arrays, Names, Tables, has_key, has_only, name_at, text_at};
+
+/// What the table of a section says: sizes and pairs are lent by the document.
+#[derive(Drop)]
+pub(crate) struct SectionTable<'t> {
+    pub name: Name,
+    pub side: Side,
+    pub neighbour: Option<Name>,
+    pub sizes: Names<'t>,
+    pub pairs: Arrays<'t>,
+}
+
+/// Sections in order, and their names.
+#[derive(Drop)]
+pub(crate) struct Sections<'t> {
+    pub names: NameIndex,
+    pub tables: Vec<SectionTable<'t>>,
+}
+
+/// The sections of the tables, or the first rule that is broken: too many of them; then section by section its
+/// table, and a name that an earlier one has.
+pub(crate) fn read_sections<'t>(
+    alloc: Global,
+    tables: &Tables<'t>,
+) -> Result<Sections<'t>, ReadError>
+    ensures value { let sections = tables_in tables.now in
+        GivesAs sections_seen result (unless_refused (first_broken (sections_rules sections)) (map entry_of sections)) }
+    ensures names { IfOk result (λ sections. sections.names ≡ entry_names (sections_seen sections)) }
+    ensures few { IfOk result (λ sections. length sections.tables.items ≤ MAX_SECTIONS) }
+{
+    if tables.len() > MAX_SECTIONS {
+        return Err(ReadError::Refused(Fault::of_file(Reason::TooMany)));
+    }
+    read_each(alloc, tables)
+}
+
+/// The sections, where they are few enough.
+fn read_each<'t>(alloc: Global, tables: &Tables<'t>) -> Result<Sections<'t>, ReadError>
+    requires { length (tables_in tables.now) ≤ MAX_SECTIONS }
+    ensures value { let sections = tables_in tables.now in
+        GivesAs sections_seen result (unless_refused (first_broken (each section_rules sections)) (map entry_of sections)) }
+    ensures names { IfOk result (λ sections. sections.names ≡ entry_names (sections_seen sections)) }
+    ensures few { IfOk result (λ sections. length sections.tables.items ≤ MAX_SECTIONS) }
+{
+    let mut names = NameIndex::new(alloc);
+    let mut sections = Vec::with_capacity(alloc, tables.len()).map_err(|_| ReadError::NoMemory)?;
+    for i in 0..tables.len() {
+        let place = i as u32 + 1;
+        let section = match read_table(tables.get(i), place) {
+            Ok(section) => section,
+            Err(fault) => return Err(ReadError::Refused(fault)),
+        };
+        if !names.add(section.name)? {
+            return Err(ReadError::Refused(Fault::of_section(place, Reason::Twice)));
+        }
+        if sections.push(section).is_err() {
+            return Err(ReadError::NoMemory);
+        }
+    }
+    Ok(Sections {
+        names,
+        tables: sections,
+    })
+}
+
+/// The table of a section, or the first of its keys that is refused.
+fn read_table(table: &Table, place: u32) -> Result<SectionTable<'_>, Fault>
+    ensures { let section = table_view table.now in
+        ReadsAs entry_seen result (unless_refused (first_broken (section_table_rules place section)) (entry_of section)) }
+{
+    if !has_only(table, &["name", "side", "neighbour", "sizes", "pairs"]) {
+        return Err(Fault::of_section(place, Reason::Key));
+    }
+    let Some(name) = name_at(table, "name") else {
+        return Err(Fault::of_section(place, Reason::Field));
+    };
+    let Some(side) = side_at(table) else {
+        return Err(Fault::of_section(place, Reason::Field));
+    };
+    let Some(neighbour) = neighbour_at(table) else {
+        return Err(Fault::of_section(place, Reason::Field));
+    };
+    let Some(sizes) = Names::at(table, "sizes") else {
+        return Err(Fault::of_section(place, Reason::Field));
+    };
+    let Some(pairs) = Arrays::at(table, "pairs") else {
+        return Err(Fault::of_section(place, Reason::Field));
+    };
+    Ok(SectionTable {
+        name,
+        side,
+        neighbour,
+        sizes,
+        pairs,
+    })
+}
+
+/// The side at its key.
+fn side_at(table: &Table) -> Option<Side>
+    ensures { result ≡ side_at (table_view table.now) }
+{
+    match text_at(table, "side")? {
+        "supply" => Some(Side::Supply),
+        "return" => Some(Side::Return),
+        _ => None,
+    }
+}
+
+/// The neighbour's name at its key; none where the key is absent.
+fn neighbour_at(table: &Table) -> Option<Option<Name>>
+    ensures { result ≡ neighbour_at (table_view table.now) }
+{
+    if has_key(table, "neighbour") {
+        name_at(table, "neighbour").map(Some)
+    } else {
+        Some(None)
+    }
+}
