@@ -1,0 +1,26 @@
+-- What a contract sees of the rows of a file: the one at hand, its number, and those that are left.
+use Rattle.std.specs.Prelude.{◌≡◌, ℕ, ◌+◌, Bool, List, [], ◌∷◌, Result, Ok, Err, if◌then◌else◌}
+use Rattle.std.specs.Bool.{MatchBool}
+use Rattle.duct_units.specs.declared.fault.Fault.{Fault}
+use Rattle.duct_units.specs.declared.fault.Reason.TheVariants.{Header}
+use Rattle.file_definitions.specs.Rows.{Row, row_fault, has_fields}
+
+-- the number counts from 1, and is 0 before the first row
+pub record RowsLeft : Type 0 where
+  pub number : ℕ
+  pub row : Row
+  pub left : List Row
+
+-- the next of the rows that were left is at hand
+pub record IsNextRow (old new : RowsLeft) : Type 0 where
+  pub next : old.left ≡ new.row ∷ new.left
+  pub counted : new.number ≡ old.number + 1
+
+-- the next row was found, or none was left
+abbrev pub Advances : RowsLeft → RowsLeft → Bool → Type 0
+Advances old new found = MatchBool found (IsNextRow old new) (old.left ≡ [])
+
+-- the rows behind the header, or its refusal
+abbrev pub opened : Row → List Row → Result RowsLeft Fault
+opened header [] = Err (row_fault 1 Header)
+opened header (first ∷ rows) = if has_fields header first then Ok (record { number = 1; row = first; left = rows }) else Err (row_fault 1 Header)

@@ -1,0 +1,4 @@
+pub mod FrictionRow
+pub mod Rates
+pub mod Loss
+pub mod Reading

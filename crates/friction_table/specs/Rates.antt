@@ -1,0 +1,35 @@
+-- The friction rates of a size, by rising airflow.
+--   IsRate row            the airflow and the rate lie within their bounds
+--   last_of rows          the last row, or none
+--   may_follow rows row   the row's airflow is above the last one's, and its rate not below
+--   AreRising rows        so it is of each row and the one before it
+--   IsTable rows          rates of one size
+use Rattle.std.specs.Prelude.{◌<◌, ◌≤◌, nat_lt, nat_le, Bool, true, ◌&&◌, List, [], ◌∷◌, length, All, Option, Some, None}
+use Rattle.friction_table.specs.declared.limits.TheConstants.{MAX_ROWS, MAX_FLOW, MAX_RATE}
+use Rattle.friction_table.specs.declared.row.FlowRate.{FlowRate}
+
+pub record IsRate (row : FlowRate) : Type 0 where
+  pub flow : (1 ≤ row.flow) × (row.flow ≤ MAX_FLOW)
+  pub rate : row.rate ≤ MAX_RATE
+
+abbrev pub last_of : List FlowRate → Option FlowRate
+last_of [] = None
+last_of (row ∷ []) = Some row
+last_of (row ∷ next ∷ rows) = last_of (next ∷ rows)
+
+abbrev pub may_follow_last : Option FlowRate → FlowRate → Bool
+may_follow_last None row = true
+may_follow_last (Some last) row = nat_lt last.flow row.flow && nat_le last.rate row.rate
+
+abbrev pub may_follow : List FlowRate → FlowRate → Bool
+may_follow rows row = may_follow_last (last_of rows) row
+
+abbrev pub AreRising : List FlowRate → Type 0
+AreRising [] = Unit {0}
+AreRising (row ∷ []) = Unit {0}
+AreRising (row ∷ next ∷ rows) = (row.flow < next.flow) × (row.rate ≤ next.rate) × AreRising (next ∷ rows)
+
+pub record IsTable (rows : List FlowRate) : Type 0 where
+  pub few : length rows ≤ MAX_ROWS
+  pub bounds : All IsRate rows
+  pub rising : AreRising rows

@@ -1,0 +1,19 @@
+//! The limits of a friction table, and its units.
+
+/// The most rows of a size.
+pub const MAX_ROWS: usize = 64;
+
+/// The greatest airflow, l/s.
+pub const MAX_FLOW: u64 = 200_000;
+
+/// The greatest rate, mPa/m.
+pub const MAX_RATE: u64 = 1_000_000;
+
+/// The greatest length of a section, mm.
+pub const MAX_LENGTH: u64 = 1_000_000;
+
+/// A length in mm by a rate in mPa/m, over so many, is in mPa.
+pub const MILLIMETRES_PER_METRE: u64 = 1_000;
+
+/// A pressure in mPa, over so many, is in dPa.
+pub const MILLIPASCALS_PER_DECIPASCAL: u64 = 100;

@@ -1,0 +1,38 @@
+//! A rate, and the row of a file that says it.
+ghost use Rattle.std.specs.Prelude.{◌≡◌, IfSome};
+ghost use Rattle.friction_table.specs.FrictionRow.{row_of_fields};
+ghost use Rattle.friction_table.specs.Rates.{IsRate};
+
+use crate::limits::{MAX_FLOW, MAX_RATE};
+use csv_fields::Rows;
+use duct_units::Name;
+
+/// The friction rate of a size at an airflow.
+#[derive(Clone, Copy)]
+pub struct FlowRate {
+    /// l/s.
+    pub flow: u64,
+    /// mPa/m.
+    pub rate: u64,
+}
+
+/// What a row of a friction file says.
+#[derive(Clone, Copy)]
+pub struct FrictionRow {
+    pub size: Name,
+    pub at: FlowRate,
+}
+
+/// What the row at hand says; none where a field isn't of its form or lies out of its bound.
+pub fn friction_row(rows: &Rows<'_>) -> Option<FrictionRow>
+    ensures value { result ≡ row_of_fields rows.now.row }
+    ensures bounds { IfSome result (λ row. IsRate row.at) }
+{
+    let size = rows.name(0)?;
+    let flow = rows.number(1, 1, MAX_FLOW)?;
+    let rate = rows.number(2, 0, MAX_RATE)?;
+    Some(FrictionRow {
+        size,
+        at: FlowRate { flow, rate },
+    })
+}

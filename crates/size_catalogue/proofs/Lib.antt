@@ -1,0 +1,4 @@
+pub mod PlaceLaws
+pub mod NumberLaws
+pub mod CatalogueLaws
+pub mod ReadingLaws

@@ -1,0 +1,7 @@
+pub mod Places
+pub mod PlacesHeld
+pub mod SizeRow
+pub mod Catalogue
+pub mod Numbers
+pub mod CatalogueHeld
+pub mod Reading
