@@ -1,0 +1,121 @@
+-- What slacks, heads and the dampers that are found make of each path.
+use Rattle.std.proofs.Common.{◌≡◌, ℕ, ◌+◌, ◌-◌, ◌<◌, ◌≤◌, inl, inr, List, [], ◌∷◌, map, suc, Option, Some, None, refl, ap, ◌∙◌, sym, arith}
+use Rattle.std.proofs.lemmas.List.Sums.{sum_by-cons}
+use Rattle.std.specs.Prelude.{sum_by, slice_index}
+use Rattle.duct_units.specs.declared.side.Side.{Side}
+use Rattle.duct_units.specs.declared.side.Side.TheVariants.{Supply, Return}
+use Rattle.duct_definitions.specs.declared.design.Design.{Design}
+use Rattle.duct_definitions.specs.Tree.{Tree, IsTree, section_count, neighbour, side, way}
+use Rattle.duct_definitions.specs.Network.{Network, IsNetwork, fan_at}
+use Rattle.duct_definitions.specs.Designs.{Meets, pair_of, loss_of, path_loss}
+use Rattle.duct_definitions.specs.Dampers.{head, least_of, leaves_beyond, slack, slack_beside, damper}
+use Rattle.duct_definitions.proofs.TreeLaws.{earlier}
+use Rattle.design_laws.specs.Paths.{throttled_loss}
+use Rattle.design_laws.proofs.Among.{Among}
+use Rattle.design_laws.proofs.Ways.{along_way}
+use Rattle.design_laws.proofs.Beyond.{is_within}
+use Rattle.design_laws.proofs.Throttled.{paths_take_heads, paths_take_pressure, supply_takes_pressure}
+use Rattle.damper_balance.specs.declared.dampers.Dampers.{Dampers}
+use Rattle.damper_balance.specs.Balance.{AreDampers}
+use Rattle.damper_balance.specs.FoundPaths.{PathsLeaveSlack, DampersTakeSlack, AreWithinPressure, head_found, loss_with, FoundTakeHeads, FoundTakePressure, FoundSupplyTakesPressure}
+use Rattle.damper_balance.proofs.Slacks.{slack-leaf, slack_rises, worst-le-head, path-le-head}
+
+-- a part and what it leaves
+whole_again : (whole part rest : ℕ) → part ≤ whole → rest ≡ whole - part → part + rest ≡ whole
+whole_again whole part rest within is = omega arith
+
+pub paths_leave_slack : (net : Network) (d : Design) → IsNetwork net → Meets net d → PathsLeaveSlack net d
+paths_leave_slack net d valid meets x leaf of_side =
+    whole_again (head net d (side net.tree leaf)) (path_loss net d leaf) (slack net d leaf)
+    (path-le-head net d leaf meets of_side.leaf) (slack-leaf net d leaf valid.tree of_side.leaf)
+    ∙ ap (head net d) of_side.at_side
+
+pub slack_beside-le : (net : Network) (d : Design) (s : ℕ) → IsTree net.tree → s < section_count net.tree
+    → slack_beside net d (neighbour net.tree s) ≤ slack net d s
+slack_beside-le net d s tree within =
+    elim (neighbour net.tree s) as (λ (o : Option ℕ). neighbour net.tree s ≡ o → slack_beside net d o ≤ slack net d s) [
+      | None ↦ λ next. omega arith
+      | Some n ↦ λ next. slack_rises net d s n tree within next
+    ] refl
+
+pub dampers_take_slack : (net : Network) (d : Design) → IsNetwork net → Meets net d → DampersTakeSlack net d
+dampers_take_slack net d valid meets s within =
+    whole_again (slack net d s) (slack_beside net d (neighbour net.tree s)) (damper net d s)
+    (slack_beside-le net d s valid.tree within) refl
+
+least_of-bound : (f : ℕ → ℕ) (most : ℕ) (xs : List ℕ) → ((x : ℕ) → f x ≤ most) → least_of (map f xs) ≤ most
+least_of-bound f most [] each = omega arith
+least_of-bound f most (x ∷ []) each = each x
+least_of-bound f most (x ∷ y ∷ ys) each = let low = each x in let others : ℕ = least_of (map f (y ∷ ys)) in omega arith
+
+head-le : (net : Network) (d : Design) (x : Side) → Meets net d → head net d x ≤ (fan_at net d.fan).pressure
+head-le net d Supply meets = omega arith
+head-le net d Return meets = let covered = meets.pressure in omega arith
+
+less_is_less : (a b most : ℕ) → a ≤ most → a - b ≤ most
+less_is_less a b most within = omega arith
+
+pub within_pressure : (net : Network) (d : Design) → Meets net d → AreWithinPressure net d
+within_pressure net d meets = record {
+  worst = λ x. worst-le-head net d x meets;
+  head = λ x. head-le net d x meets;
+  damper = λ s.
+      let pressure : ℕ = (fan_at net d.fan).pressure in
+      less_is_less (slack net d s) (slack_beside net d (neighbour net.tree s)) pressure
+      (least_of-bound (λ leaf. head net d (side net.tree s) - path_loss net d leaf) pressure (leaves_beyond net.tree s)
+      (λ leaf. less_is_less (head net d (side net.tree s)) (path_loss net d leaf) pressure (head-le net d (side net.tree s) meets)));
+}
+
+sum_by-each : (f g : ℕ → ℕ) (xs : List ℕ) → ((x : ℕ) → Among x xs → f x ≡ g x) → sum_by f xs ≡ sum_by g xs
+sum_by-each f g [] each = refl
+sum_by-each f g (x ∷ xs) each =
+    let left = sum_by-cons f x xs in
+    let right = sum_by-cons g x xs in
+    let here = each x (inl refl) in
+    let rest = sum_by-each f g xs (λ y later. each y (inr later)) in
+    omega arith
+
+-- the sections of a way are sections of the tree
+way_within_tree : (t : Tree) (leaf s : ℕ) → IsTree t → leaf < section_count t → Among s (way t leaf) → s < section_count t
+way_within_tree t leaf s tree within among =
+    along_way t tree (λ y. y < section_count t)
+    (λ y n inside next _. let before = earlier t y n tree inside next in omega arith)
+    (suc leaf) leaf (omega arith) within within s among
+
+-- a path takes with the dampers that are found what it takes with the dampers
+loss_with-is : (net : Network) (d : Design) (found : Dampers) (leaf : ℕ) → IsTree net.tree → leaf < section_count net.tree
+    → AreDampers net d found → loss_with net d found leaf ≡ throttled_loss net d leaf
+loss_with-is net d found leaf tree within are =
+    sum_by-each (λ s. loss_of (pair_of net d s) + slice_index found.damper s) (λ s. loss_of (pair_of net d s) + damper net d s)
+    (way net.tree leaf)
+    (λ s among. ap (λ (n : ℕ). loss_of (pair_of net d s) + n) (are.damper.each s (way_within_tree net.tree leaf s tree within among)))
+
+head_is : (net : Network) (d : Design) (found : Dampers) (x : Side) → AreDampers net d found → head_found found x ≡ head net d x
+head_is net d found Supply are = are.supply_head
+head_is net d found Return are = are.return_head
+
+pub found_take_heads : (net : Network) (d : Design) (found : Dampers) → IsNetwork net → Meets net d → AreDampers net d found
+    → FoundTakeHeads net d found
+found_take_heads net d found valid meets are x leaf of_side =
+    loss_with-is net d found leaf valid.tree (is_within net.tree leaf of_side.leaf) are
+    ∙ paths_take_heads net d valid meets x leaf of_side
+    ∙ sym (head_is net d found x are)
+
+pub found_take_pressure : (net : Network) (d : Design) (found : Dampers) → IsNetwork net → Meets net d → AreDampers net d found
+    → FoundTakePressure net d found
+found_take_pressure net d found valid meets are supply back of_supply of_return =
+    let one = loss_with-is net d found supply valid.tree (is_within net.tree supply of_supply.leaf) are in
+    let other = loss_with-is net d found back valid.tree (is_within net.tree back of_return.leaf) are in
+    ap (λ (n : ℕ). n + loss_with net d found back) one
+    ∙ ap (λ (n : ℕ). throttled_loss net d supply + n) other
+    ∙ paths_take_pressure net d valid meets supply back of_supply of_return
+
+pub found_supply_takes_pressure : (net : Network) (d : Design) (found : Dampers) → IsNetwork net → Meets net d
+    → AreDampers net d found → FoundSupplyTakesPressure net d found
+found_supply_takes_pressure net d found valid meets are none leaf of_supply =
+    loss_with-is net d found leaf valid.tree (is_within net.tree leaf of_supply.leaf) are
+    ∙ supply_takes_pressure net d valid meets none leaf of_supply
+
+pub ruleset of_slacks = (paths_leave_slack, dampers_take_slack)
+
+pub ruleset of_found = (found_take_heads, found_take_pressure, found_supply_takes_pressure)

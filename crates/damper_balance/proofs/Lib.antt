@@ -1,0 +1,6 @@
+pub mod LeafBeyond
+pub mod Slacks
+pub mod NumberLists
+pub mod PassLemmas
+pub mod FoundPathLaws
+pub mod FoundDampers

@@ -1,0 +1,3 @@
+pub mod SectionNumbers
+pub mod Balance
+pub mod FoundPaths

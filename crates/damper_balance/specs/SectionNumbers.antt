@@ -1,0 +1,23 @@
+-- Lists with one number for each section.
+--   ListsEach t f numbers    the number of section s is f s
+--   number_at numbers o      the number of a section that may not be there, 0 of none
+--   greatest_at numbers ss   the greatest number of the sections, 0 of none
+--   least_at numbers ss      the least number of the sections, none of none
+use Rattle.std.specs.Prelude.{◌≡◌, ℕ, ◌<◌, max, List, length, map, fold, Option, Some, None, slice_index}
+use Rattle.duct_units.specs.Prices.{lesser}
+use Rattle.duct_definitions.specs.Tree.{Tree, section_count}
+
+-- one number for each section, in order, and that of section s is f s
+pub record ListsEach (t : Tree) (f : ℕ → ℕ) (numbers : List ℕ) : Type 0 where
+  pub count : length numbers ≡ section_count t
+  pub each : (s : ℕ) → s < section_count t → slice_index numbers s ≡ f s
+
+abbrev pub number_at : List ℕ → Option ℕ → ℕ
+number_at numbers None = 0
+number_at numbers (Some s) = slice_index numbers s
+
+abbrev pub greatest_at : List ℕ → List ℕ → ℕ
+greatest_at numbers ss = fold max 0 (map (λ s. slice_index numbers s) ss)
+
+abbrev pub least_at : List ℕ → List ℕ → Option ℕ
+least_at numbers ss = fold (λ least s. lesser least (Some (slice_index numbers s))) None ss
