@@ -9,3 +9,6 @@ pub mod laws;
 mod passes;
 
 pub use dampers::{Dampers, balance};
+
+#[cfg(test)]
+mod tests;
