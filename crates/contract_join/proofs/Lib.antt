@@ -1,0 +1,11 @@
+pub mod Lessers
+pub mod Laid
+pub mod Touched
+pub mod Clearing
+pub mod Sweeping
+pub mod LaidFronts
+pub mod Fronts
+pub mod Closing
+pub mod Adding
+pub mod InTurn
+pub mod Sides

@@ -1,0 +1,4 @@
+pub mod SectionFronts
+pub mod Join
+pub mod Contract
+pub mod Scratch

@@ -1,0 +1,60 @@
+//! The fronts of a section, from the sums of its children's fronts.
+ghost use Rattle.std.specs.Prelude.{◌≡◌, ℕ, ◌+◌, ◌<◌, ◌≤◌, IfOk, length};
+ghost use Rattle.duct_definitions.specs.Tree.{children};
+ghost use Rattle.duct_definitions.specs.Network.{columns, cap};
+ghost use Rattle.least_laws.specs.LeastIn.{least_in};
+ghost use Rattle.contract_join.specs.SectionFronts.{AreExact};
+ghost use Rattle.contract_join.specs.Join.{AreSums};
+ghost use Rattle.contract_join.specs.Scratch.{least_laid, IsClear};
+
+use crate::laying::lay_front;
+use crate::scratch::Scratch;
+use duct_units::{List, NoMemory};
+use net_model::Network;
+use pareto_front::Front;
+use std::alloc::Global;
+
+/// The front of section `s` beside each size of its neighbour, where `sums` has for each of its sizes what all
+/// children cost together.
+pub(crate) fn fronts_beside(
+    alloc: Global,
+    net: &Network,
+    s: u32,
+    sums: &[Front],
+) -> Result<List<Front>, NoMemory>
+    requires { AreSums net.now s (length (children net.now.tree s)) sums.now }
+    ensures { IfOk result (AreExact net.now s) }
+{
+    let mut scratch = Scratch::start(alloc, net.cap())?;
+    let columns = net.columns(s);
+    let mut fronts = Vec::with_capacity(alloc, columns as usize)?;
+    for g in 0..columns {
+        lay_sizes(&mut scratch, net, s, g, sums)?;
+        fronts.push(scratch.front(alloc)?)?;
+    }
+    Ok(List::from_vec(fronts))
+}
+
+/// Lays the points of all sizes of section `s` that can be joined to size `g` of its neighbour.
+fn lay_sizes(
+    scratch: &mut Scratch,
+    net: &Network,
+    s: u32,
+    g: u32,
+    sums: &[Front],
+) -> Result<(), NoMemory>
+    requires clear { IsClear scratch.old }
+    requires wide { length scratch.old ≡ cap net.now + 1 }
+    requires beside { g < columns net.now s }
+    requires sums { AreSums net.now s (length (children net.now.tree s)) sums.now }
+    ensures least { IfOk result (λ _. (budget : ℕ) → budget ≤ cap net.now →
+        least_laid scratch.new budget ≡ least_in net.now s g budget) }
+    ensures wide { length scratch.new ≡ length scratch.old }
+{
+    for k in 0..net.size_count(s) {
+        if let Some(pair) = net.pair(s, k, g) {
+            lay_front(scratch, &sums[k as usize], pair)?;
+        }
+    }
+    Ok(())
+}

@@ -1,0 +1,22 @@
+//! The fronts of a section: what each budget of pressure buys for the section and all beyond it, at the least cost.
+//!
+//! Needs, losses and budgets are in dPa, costs and prices in cents. Sections and sizes count from 0.
+//! The fronts are exact for budgets up to the network's greatest fan pressure, and no need is above it.
+#![tactic(auto)]
+
+mod close;
+mod contract;
+mod join;
+mod laying;
+mod scratch;
+mod section_fronts;
+mod side;
+mod sweep;
+
+pub use contract::contract_in_turn;
+pub use join::Join;
+pub use section_fronts::SectionFronts;
+pub use side::side_of;
+
+#[cfg(test)]
+mod tests;

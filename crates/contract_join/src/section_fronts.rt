@@ -1,0 +1,83 @@
+//! The fronts of one section, which borrow their network.
+ghost use Rattle.std.specs.Prelude.{◌≡◌, ℕ, ◌<◌, ◌≤◌, ◌^◌, IfSome};
+ghost use Rattle.duct_definitions.specs.Network.{columns, cap};
+ghost use Rattle.duct_definitions.specs.Least.{IsLeast};
+ghost use Rattle.pareto_front.specs.Front.{cheapest};
+ghost use Rattle.contract_join.specs.SectionFronts.{AreExact, NeedsWithin, CostsWithin, front_of, most_beyond};
+
+use duct_units::List;
+use net_model::Network;
+use pareto_front::Front;
+use std::marker::Model;
+
+/// What each budget buys at the least cost for a section and all beyond it, beside each size of its neighbour.
+#[derive(Drop)]
+pub struct SectionFronts<'n> {
+    net: &'n Network,
+    section: u32,
+    fronts: List<Front>,
+}
+
+impl<'n> Model for SectionFronts<'n> {
+    ghost use Rattle.contract_join.specs.SectionFronts.{SectionData, AreExact};
+
+    ghost Value = { SectionData };
+
+    ghost view = { λ a. record { net = a.net.now; section = a.section; fronts = a.fronts } };
+
+    ghost invariant = { λ a. AreExact a.net.now a.section a.fronts };
+}
+
+impl<'n> SectionFronts<'n> {
+    /// The exact fronts of the section.
+    pub(crate) fn of(net: &'n Network, section: u32, fronts: List<Front>) -> SectionFronts<'n>
+        requires { AreExact net.now section fronts }
+        ensures { result ≡ record { net = net.now; section = section; fronts = fronts } }
+    {
+        SectionFronts {
+            net,
+            section,
+            fronts,
+        }
+    }
+
+    /// The network, whose least prices these are.
+    pub fn network(&self) -> &'n Network
+        ensures value { result.now ≡ self.now.net }
+        ensures exact { AreExact self.now.net self.now.section self.now.fronts }
+    {
+        self.net
+    }
+
+    pub fn section(&self) -> u32
+        ensures { result ≡ self.now.section }
+    {
+        self.section
+    }
+
+    /// The least cost of the section and all beyond it, cents, beside size `g` of the neighbour, 0 at the fan; None
+    /// where no choice of sizes is within the budget, dPa.
+    pub fn cheapest(&self, g: u32, budget: u64) -> Option<u64>
+        requires beside { g < columns self.now.net self.now.section }
+        requires within { budget ≤ cap self.now.net }
+        ensures least { IsLeast self.now.net self.now.section g budget result }
+        ensures value { result ≡ cheapest (front_of self.now.fronts g) budget }
+        ensures bounds { IfSome result (λ cost. cost ≤ most_beyond self.now.net) }
+        ensures below { IfSome result (λ cost. cost < 10 ^ 18) }
+    {
+        let _ = self.net.tree();
+        self.front(g).cheapest(budget)
+    }
+
+    /// The front beside size `g` of the neighbour, 0 at the fan.
+    pub fn front(&self, g: u32) -> &Front
+        requires { g < columns self.now.net self.now.section }
+        ensures value { result.now ≡ front_of self.now.fronts g }
+        ensures least { (budget : ℕ) → budget ≤ cap self.now.net →
+            IsLeast self.now.net self.now.section g budget (cheapest result.now budget) }
+        ensures needs { NeedsWithin (cap self.now.net) result.now }
+        ensures costs { CostsWithin (most_beyond self.now.net) result.now }
+    {
+        &self.fronts.as_slice()[g as usize]
+    }
+}

@@ -1,0 +1,36 @@
+//! The front of a whole side of the fan.
+ghost use Rattle.std.specs.Prelude.{◌≡◌, ℕ, ◌*◌, ◌<◌, ◌≤◌, ◌^◌, All, IfOk, length};
+ghost use Rattle.duct_definitions.specs.Tree.{roots};
+ghost use Rattle.duct_definitions.specs.Network.{cap};
+ghost use Rattle.least_laws.specs.Choosing.{side_least};
+ghost use Rattle.pareto_front.specs.Front.{cheapest};
+ghost use Rattle.contract_join.specs.SectionFronts.{AreFrontsOf, NeedsWithin, CostsWithin, most_beyond};
+
+use crate::section_fronts::SectionFronts;
+use duct_units::{NoMemory, Side};
+use net_model::Network;
+use pareto_front::Front;
+use std::alloc::Global;
+
+/// What each budget buys at the least cost for a side of the fan, from the fronts of all sections. A side without
+/// sections needs nothing and costs nothing.
+pub fn side_of(
+    alloc: Global,
+    net: &Network,
+    fronts: &[SectionFronts],
+    side: Side,
+) -> Result<Front, NoMemory>
+    requires { AreFrontsOf net.now fronts.now }
+    ensures value { IfOk result (λ front. (budget : ℕ) → budget ≤ cap net.now →
+        cheapest front budget ≡ side_least net.now side budget) }
+    ensures needs { IfOk result (NeedsWithin (cap net.now)) }
+    ensures costs { IfOk result
+        (CostsWithin (length (roots net.now.tree side) * most_beyond net.now)) }
+    ensures below { IfOk result (All (λ point. point.cost < 10 ^ 18)) }
+{
+    let mut sum = Front::zero(alloc)?;
+    for root in net.tree().roots(side) {
+        sum = Front::both(alloc, &sum, fronts[*root as usize].front(0))?;
+    }
+    Ok(sum)
+}
