@@ -59,8 +59,9 @@ impl<'n> Join<'n> {
             ≡ Some child.now.section }
         ensures { IfOk result (λ _. self.new ≡ record self.old { added = self.old.added + 1 }) }
     {
-        self.sums = with_child(alloc, self.sums.as_slice(), child)?;
+        let sums = with_child(alloc, self.sums.as_slice(), child)?;
         self.added += 1;
+        self.sums = sums;
         Ok(())
     }
 

@@ -23,7 +23,7 @@ loop-g-preserved c =
     let same : length c.front.new.self ≡ cap c.args.net.now + 1 = omega arith in (
       c.in_ok-front.ensures.clear,
       same,
-      subst (λ (l : List (List Point)). AreBeside net c.args.s l (c.loop-g.g + 1)) (sym c.in_ok-push.ensures.items)
+      subst (λ (l : List (List Point)). AreBeside net c.args.s l (c.loop-g.g + 1)) (sym {A = List (List Point)} c.in_ok-push.ensures.items)
           (AreBeside-push net c.args.s c.loop-g.fronts.items c.loop-g.g front c.loop-g.invariant.2 c.in_ok-front.ensures.rising
           (λ budget in_cap. c.in_ok-front.ensures.value budget ∙ c.in_ok-lay_sizes.ensures.least budget in_cap)
           (All-weaker (λ (point : Point). point.need < length c.lay_sizes.new.scratch) (λ point. point.need ≤ cap net)

@@ -40,7 +40,7 @@ loop-k-preserved c =
     let within : c.loop-k.k < length c.args.sums.now = omega arith in
     let less : c.loop-k.k < columns c.args.child.now.net c.args.child.now.section = omega arith in
     let is : front_of c.args.sums.now c.loop-k.k ≡ sum = front_of-read c.args.sums.now c.loop-k.k sum within c.index-sums-k.is in
-    subst (λ (l : List (List Point)). IsAddedTo child.net child.section c.args.sums.now l (c.loop-k.k + 1)) (sym c.in_ok-push.ensures.items)
+    subst (λ (l : List (List Point)). IsAddedTo child.net child.section c.args.sums.now l (c.loop-k.k + 1)) (sym {A = List (List Point)} c.in_ok-push.ensures.items)
     (IsAddedTo-push child.net child.section c.args.sums.now c.loop-k.fronts.items c.loop-k.k front within c.loop-k.invariant
     (λ budget in_cap.
     c.in_ok-both.ensures.value budget

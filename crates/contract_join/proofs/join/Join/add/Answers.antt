@@ -49,6 +49,6 @@ invariant_of-self c =
     let next : slice_get (children own.net.now.tree own.section) own.added ≡ Some child.section =
     subst (λ (v : Joining). slice_get (children v.net.tree v.section) v.added ≡ Some child.section) (sym c.self.view_is) c.requires.next in
     let net_is : child.net ≡ own.net.now = c.requires.network ∙ sym (ap (λ (v : Joining). v.net) c.self.view_is) in
-    AreSums-add own.net.now own.section own.added child.section own.sums c.in_ok-self-inside.field-0 c.self.invariant next
-    (subst (λ (n : Network). AddsChild n child.section own.sums c.in_ok-self-inside.field-0) net_is
-    (subst (λ (l : List (List Point)). AddsChild child.net child.section l c.in_ok-self-inside.field-0) c.as_slice.ensures c.in_ok-self-inside.ensures))
+    AreSums-add own.net.now own.section own.added child.section own.sums c.in_ok-sums.sums c.self.invariant next
+    (subst (λ (n : Network). AddsChild n child.section own.sums c.in_ok-sums.sums) net_is
+    (subst (λ (l : List (List Point)). AddsChild child.net child.section l c.in_ok-sums.sums) c.as_slice.ensures c.in_ok-sums.ensures))
