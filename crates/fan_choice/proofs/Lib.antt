@@ -1,0 +1,10 @@
+pub mod Rising
+pub mod FirstCheapest
+pub mod Rest
+pub mod Shares
+pub mod Bought
+pub mod Paid
+pub mod OneFan
+pub mod Chosen
+pub mod Covering
+pub mod Answered
