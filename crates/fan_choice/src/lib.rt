@@ -10,3 +10,6 @@ mod sharing;
 
 pub use choice::{COST_LIMIT, Choice};
 pub use choosing::choose;
+
+#[cfg(test)]
+mod tests;
