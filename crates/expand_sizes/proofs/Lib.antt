@@ -1,0 +1,6 @@
+pub mod Entries
+pub mod Children
+pub mod Attaining
+pub mod Budgets
+pub mod Outwards
+pub mod Whole

@@ -1,0 +1,2 @@
+pub mod BestChoice
+pub mod Outwards
