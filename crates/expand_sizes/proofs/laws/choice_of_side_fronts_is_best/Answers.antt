@@ -5,9 +5,13 @@ use Rattle.least_laws.proofs.ChosenAgrees.{chosen_agrees}
 use Rattle.expand_sizes.proofs.laws.choice_of_side_fronts_is_best.Goals as goal
 
 pub returns : goal.returns
-returns c net supply back choice supply_is back_is made = record {
-  chosen =
-      chosen_agrees net (cheapest supply) (side_least net Supply) (cheapest back) (side_least net Return) supply_is back_is
-      choice.fan choice.supply_budget choice.cost made.chosen;
-  return_budget = made.return_budget;
-}
+returns c =
+    let net = c.args.net.now in
+    let choice = c.args.choice.now in
+    record {
+      chosen =
+          chosen_agrees net (cheapest c.args.supply.now) (side_least net Supply)
+          (cheapest c.args.back.now) (side_least net Return) c.requires.supply c.requires.back
+          choice.fan choice.supply_budget choice.cost c.requires.choice.chosen;
+      return_budget = c.requires.choice.return_budget;
+    }
