@@ -6,7 +6,7 @@ use Rattle.duct_definitions.specs.Network.{Network}
 use Rattle.duct_definitions.specs.DesignText.{text, listed}
 use Rattle.duct_definitions.proofs.OrderLaws.{best_is_one}
 use Rattle.duct_cli.specs.Words.{Command, pick, command_of, files_of}
-use Rattle.duct_cli.specs.NetworkFile.{network_of}
+use Rattle.network_file.specs.NetworkFile.{network_of}
 use Rattle.duct_cli.specs.Answer.{Says, AnswersDesign, AnswersNetwork, AnswersFiles, AnswersCommand, first_too_long, IsAnswer}
 
 -- two statuses are one, and so are their texts

@@ -1,3 +1,2 @@
-pub mod SingleLaws
 pub mod RunLaws
 pub mod AnswerLaws

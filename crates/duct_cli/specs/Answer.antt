@@ -9,7 +9,7 @@ use Rattle.duct_definitions.specs.DesignText.{text, listed, none_text}
 use Rattle.duct_ports.specs.declared.read.TheConstants.{MAX_FILE_BYTES}
 use Rattle.duct_cli.specs.declared.words.FileKind.{FileKind}
 use Rattle.duct_cli.specs.declared.words.FileKind.TheVariants.{Network as network_file}
-use Rattle.duct_cli.specs.NetworkFile.{network_of}
+use Rattle.network_file.specs.NetworkFile.{network_of}
 use Rattle.duct_cli.specs.RefusalText.{refusal_line, words_line}
 use Rattle.duct_cli.specs.Words.{Command, pick, command_of, NamedFile, files_of}
 

@@ -3,13 +3,13 @@
 //! The program has no logic of its own: it hands its words, the disk and the standard output to `run`.
 #![tactic(auto)]
 
+mod best;
 mod laws;
-mod network_text;
+mod listing;
 mod printing;
 mod refusal_text;
 mod reply;
 mod run;
-mod single;
 #[cfg(test)]
 mod tests;
 mod text;

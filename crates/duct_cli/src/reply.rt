@@ -8,16 +8,16 @@ ghost use Rattle.duct_cli.specs.Answer.{AnswersDesign, AnswersNetwork};
 ghost use Rattle.duct_cli.specs.RefusalText.{refusal_line};
 ghost use Rattle.duct_cli.specs.Reply.{IsReply, IsCommandReply};
 ghost use Rattle.duct_cli.specs.Run.{AsksFor};
-ghost use Rattle.duct_cli.specs.SingleNetwork.{IsSingle};
 
-use crate::network_text::read_network;
+use crate::best::best_design;
+use crate::listing::listed;
 use crate::printing::{design_text, none_text};
 use crate::refusal_text::refusal_text;
-use crate::single::{is_possible, listed_single};
 use crate::words::{Command, FileKind};
 use duct_ports::{Files, TakeError, read_all};
-use duct_units::{Fault, List, NoMemory, Part, ReadError, Reason};
+use duct_units::{Fault, List, NoMemory, ReadError, Reason};
 use net_model::Network;
+use network_file::read_network;
 use std::alloc::Global;
 
 /// A status and a text.
@@ -80,15 +80,7 @@ fn replied(answer: Result<Answer, NoMemory>) -> Reply
 fn answer_too_long(alloc: Global, file: FileKind) -> Result<Answer, NoMemory>
     ensures { IfOk result (λ a. (a.status ≡ 1) × (a.text ≡ refusal_line file (file_fault TooLong))) }
 {
-    refused(
-        alloc,
-        file,
-        &Fault {
-            part: Part::File,
-            place: 0,
-            reason: Reason::TooLong,
-        },
-    )
+    refused(alloc, file, &Fault::of_file(Reason::TooLong))
 }
 
 fn refused(alloc: Global, file: FileKind, fault: &Fault) -> Result<Answer, NoMemory>
@@ -114,20 +106,17 @@ fn answer_network(alloc: Global, bytes: &[u8]) -> Result<Answer, NoMemory>
 
 /// The best design, or none.
 fn answer_design(alloc: Global, net: &Network) -> Result<Answer, NoMemory>
-    requires { IsSingle net.now }
     ensures answer { IfOk result (λ a. AnswersDesign net.now a.status a.text) }
     ensures status { IfOk result (λ a. (a.status < 4) × (a.status ≢ 2)) }
 {
-    if is_possible(net) {
-        let fields = listed_single(alloc, net)?;
-        Ok(Answer {
+    match best_design(alloc, net)? {
+        Some(best) => Ok(Answer {
             status: 0,
-            text: design_text(alloc, &fields)?,
-        })
-    } else {
-        Ok(Answer {
+            text: design_text(alloc, &listed(alloc, net, &best)?)?,
+        }),
+        None => Ok(Answer {
             status: 3,
             text: none_text(alloc, &net.name())?,
-        })
+        }),
     }
 }

@@ -109,7 +109,7 @@ fn the_first_fault_of_the_bytes_is_answered(rt: HostRuntime) -> Result<(), Fail>
         back,
         &[],
         1,
-        "refused network file 0 unbuilt\n",
+        "refused network file 0 no-supply\n",
     )?;
     let cut = text_of(alloc, &NETWORK[..20])?;
     expect_pick(
