@@ -23,7 +23,8 @@ pub record AreSums (net : Network) (s added : ℕ) (sums : List (List Point)) : 
   pub some_children : added ≤ length (children net.tree s)
   pub count : length sums ≡ size_count net s
   pub value : (k budget : ℕ) → k < size_count net s → budget ≤ cap net
-      → cheapest (front_of sums k) budget ≡ sum_of (λ c. least_in net c k budget) (take added (children net.tree s))
+      → cheapest (front_of sums k) budget
+      ≡ sum_of (λ c. least_in net c k budget) (take added (children net.tree s))
   pub needs : All (NeedsWithin (cap net)) sums
   pub costs : All (CostsWithin (added * most_beyond net)) sums
 
@@ -31,6 +32,8 @@ pub record AreSums (net : Network) (s added : ℕ) (sums : List (List Point)) : 
 pub record AddsChild (net : Network) (c : ℕ) (old new : List (List Point)) : Type 0 where
   pub count : length new ≡ length old
   pub value : (k budget : ℕ) → k < length old → budget ≤ cap net
-      → cheapest (front_of new k) budget ≡ both_of (cheapest (front_of old k) budget) (least_in net c k budget)
+      → cheapest (front_of new k) budget
+      ≡ both_of (cheapest (front_of old k) budget) (least_in net c k budget)
   pub needs : All (NeedsWithin (cap net)) old → All (NeedsWithin (cap net)) new
-  pub costs : (most : ℕ) → All (CostsWithin most) old → All (CostsWithin (most + most_beyond net)) new
+  pub costs : (most : ℕ) → All (CostsWithin most) old
+      → All (CostsWithin (most + most_beyond net)) new

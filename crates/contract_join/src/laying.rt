@@ -10,13 +10,13 @@ use duct_units::NoMemory;
 use net_model::Pair;
 use pareto_front::{Front, Point};
 
-/// Lays each point of the front with the pair's loss and price more, as far as the needs of the scratch go.
+/// Lays each point of the front with the pair's loss and price more, up to the last need of the scratch.
 pub(crate) fn lay_front(scratch: &mut Scratch, front: &Front, pair: Pair) -> Result<(), NoMemory>
     requires needs { All (λ point. point.need + pair.loss < 2 ^ 64) front.now }
     requires costs { All (λ point. point.cost + pair.price < 2 ^ 64) front.now }
     ensures least { IfOk result (λ _. (budget : ℕ) → budget < length scratch.old →
-        least_laid scratch.new budget
-        ≡ lesser (least_laid scratch.old budget) (with_pair (Some pair) budget (cheapest front.now))) }
+        least_laid scratch.new budget ≡ lesser (least_laid scratch.old budget)
+        (with_pair (Some pair) budget (cheapest front.now))) }
     ensures wide { length scratch.new ≡ length scratch.old }
 {
     for point in front.points() {

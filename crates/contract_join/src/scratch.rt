@@ -12,7 +12,7 @@ use pareto_front::{Front, Point};
 use std::alloc::Global;
 use std::marker::Model;
 
-/// A need is looked for in the whole range where more than one of so many have a price.
+/// Where at least one need in so many has a price, the whole range is read, and else the few needs are sorted.
 const FEW: usize = 16;
 
 /// The least price that is laid at each need. A contract sees the list of prices.
@@ -60,7 +60,8 @@ impl Scratch {
     pub(crate) fn lay(&mut self, point: Point) -> Result<(), NoMemory>
         requires { point.need < length self.old }
         ensures least { IfOk result (λ _. (budget : ℕ) →
-            least_laid self.new budget ≡ lesser (least_laid self.old budget) (price_of point budget)) }
+            least_laid self.new budget
+            ≡ lesser (least_laid self.old budget) (price_of point budget)) }
         ensures wide { length self.new ≡ length self.old }
     {
         let need = point.need as usize;

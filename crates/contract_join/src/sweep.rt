@@ -10,7 +10,7 @@ use duct_units::NoMemory;
 use pareto_front::Point;
 use std::alloc::Global;
 
-/// The points at which the price falls below all before, from the needs that have a price, dPa, rising.
+/// The points at which the price falls below all before, from the rising needs that have a price, dPa.
 pub(crate) fn cheaper_points(
     alloc: Global,
     prices: &[Option<u64>],
@@ -21,7 +21,8 @@ pub(crate) fn cheaper_points(
     ensures front { IfOk result (λ points. IsFront points.items) }
     ensures value { IfOk result (λ points. (budget : ℕ) →
         cheapest points.items budget ≡ least_laid prices.now budget) }
-    ensures needs { IfOk result (λ points. All (λ point. point.need < length prices.now) points.items) }
+    ensures needs { IfOk result (λ points.
+        All (λ point. point.need < length prices.now) points.items) }
 {
     let mut points = Vec::with_capacity(alloc, needs.len())?;
     for need in needs {
