@@ -1,11 +1,11 @@
 -- The ways to share fans' pressures out, and the first cheapest of them.
---   share number fan point rest      the supply side takes the point, and the rest of the pressure buys the return side
---   share_at number fan back point   the same with the return side's cheapest, where the pressure covers the point
---   shares number fan supply back    of each supply point, by its place, the choice that gives it just its need
---   cheaper best next                the cheaper of two choices, the first of equal ones, or the one that is there
---   first_cheapest offer n           the cheapest of the offers below n, the first of equal ones
---   best_with number fan supply back the first cheapest share of one fan
---   best_of net supply back          of each fan of the network, by its number, its first cheapest share
+--   share number fan point rest        the supply side takes the point, and the rest of the pressure buys the other side
+--   share_at number fan back point     the same with the return side's cheapest, where the pressure covers the point
+--   shares number fan supply back k    the share of the supply point at place k
+--   cheaper best next                  the cheaper of the two, the first of equal ones, or the one that is there
+--   first_cheapest offer n             the cheapest of the offers below n, the first of equal ones
+--   best_with number fan supply back   the first cheapest share of one fan
+--   best_of net supply back i          the same of the network's fan i
 use Rattle.std.specs.Prelude.{ℕ, zero, suc, ◌+◌, ◌-◌, List, length, Option, Some, None, nat_le, nat_lt, slice_get, if◌then◌else◌}
 use Rattle.std.specs.Option.{option_and_then}
 use Rattle.duct_definitions.specs.declared.design.NetFan.{NetFan}
