@@ -9,3 +9,6 @@ pub mod laws;
 mod sizes;
 
 pub use descent::expand;
+
+#[cfg(test)]
+mod tests;
