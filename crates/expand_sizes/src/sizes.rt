@@ -67,9 +67,8 @@ fn price_beyond(net: &Network, fronts: &[SectionFronts], s: u32, k: u32, budget:
     ensures value { result ≡ sum_of (λ c. least_in net.now c k budget) (children net.now.tree s) }
     ensures fits { IfSome result (λ price. price + MAX_PRICE < 2 ^ 64) }
 {
-    let children = net.tree().children(s);
     let mut price = 0;
-    for child in children {
+    for child in net.tree().children(s) {
         price += fronts[*child as usize].cheapest(k, budget)?;
     }
     Some(price)

@@ -1,5 +1,4 @@
-use Rattle.std.proofs.Common.{ap, ◌∙◌, arith}
-use Rattle.duct_definitions.specs.Tree.{Tree, children}
+use Rattle.std.proofs.Common.{◌∙◌, arith, rules}
 use Rattle.expand_sizes.proofs.Children.{summed-none, summed-all, next-beside, next-within, next-none, next-more, next-fits}
 use Rattle.expand_sizes.proofs.sizes.price_beyond.Goals as goal
 
@@ -26,9 +25,8 @@ overflow_add-price c =
 
 pub loop-child-init : goal.loop-child-init
 loop-child-init c =
-    summed-none c.args.net.now c.args.fronts.now c.args.s c.args.k c.args.budget c.children-children.result.now
-    c.tree.ensures.network.tree c.requires.fronts c.requires.size
-    (c.children-children.ensures.value ∙ ap (λ (t : Tree). children t c.args.s) c.tree.ensures.tree)
+    summed-none c.args.net.now c.args.fronts.now c.args.s c.args.k c.args.budget _ c.tree.ensures.network.tree
+    c.requires.fronts c.requires.size (search rules)
 
 pub loop-child-preserved : goal.loop-child-preserved
 loop-child-preserved c =
