@@ -17,6 +17,3 @@ pub use contract::contract_in_turn;
 pub use join::Join;
 pub use section_fronts::SectionFronts;
 pub use side::side_of;
-
-#[cfg(test)]
-mod tests;

@@ -9,6 +9,3 @@ pub mod laws;
 mod sizes;
 
 pub use descent::expand;
-
-#[cfg(test)]
-mod tests;
