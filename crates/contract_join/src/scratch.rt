@@ -7,7 +7,7 @@ ghost use Rattle.pareto_front.specs.Front.{IsFront, cheapest, price_of};
 ghost use Rattle.contract_join.specs.Scratch.{least_laid, IsClear, AreTouched};
 
 use crate::sweep::cheaper_points;
-use duct_units::{List, NoMemory};
+use duct_units::{List, NoMemory, lesser};
 use pareto_front::{Front, Point};
 use std::alloc::Global;
 use std::marker::Model;
@@ -68,7 +68,7 @@ impl Scratch {
         if self.prices[need].is_none() {
             self.touched.push(need)?;
         }
-        self.prices[need] = lesser_price(self.prices[need], point.cost);
+        self.prices[need] = lesser(self.prices[need], Some(point.cost));
         Ok(())
     }
 
@@ -107,16 +107,6 @@ impl Scratch {
     {
         take_away(&mut self.prices, &self.touched);
         self.touched.clear();
-    }
-}
-
-/// The lesser price, cents.
-fn lesser_price(price: Option<u64>, cost: u64) -> Option<u64>
-    ensures { result ≡ lesser price (Some cost) }
-{
-    match price {
-        Some(price) => Some(price.min(cost)),
-        None => Some(cost),
     }
 }
 

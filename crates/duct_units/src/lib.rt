@@ -10,6 +10,7 @@ mod fault;
 mod list;
 mod name;
 mod number;
+mod prices;
 mod rounding;
 mod side;
 
@@ -17,5 +18,6 @@ pub use fault::{Fault, NoMemory, Part, ReadError, Reason};
 pub use list::List;
 pub use name::{MAX_NAME_BYTES, Name};
 pub use number::whole;
+pub use prices::lesser;
 pub use rounding::ceil_div;
 pub use side::Side;

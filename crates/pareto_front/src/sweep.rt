@@ -5,6 +5,7 @@ ghost use Rattle.pareto_front.specs.Front.{IsFront, cheapest};
 ghost use Rattle.pareto_front.specs.Sweep.{cost_of, next_need, IsReadTo};
 
 use crate::point::Point;
+use duct_units::lesser;
 use std::marker::Model;
 
 /// A need at which one of the fronts has a point, dPa, and the last point of each within it.
@@ -57,7 +58,7 @@ impl<'a> Sweep<'a> {
         ensures none { IfNone result (points_left self.old ≡ 0) }
         ensures kept { IfNone result (self.new ≡ self.old) }
     {
-        let need = least_need(self.left.next_need(), self.right.next_need())?;
+        let need = lesser(self.left.next_need(), self.right.next_need())?;
         Some(Step {
             need,
             left: self.left.last_within(need),
@@ -105,15 +106,5 @@ impl<'a> Reading<'a> {
             self.read += 1;
         }
         self.points[..self.read].last().copied()
-    }
-}
-
-/// The lesser need, or the one that is there, dPa.
-fn least_need(a: Option<u64>, b: Option<u64>) -> Option<u64>
-    ensures { result ≡ lesser a b }
-{
-    match (a, b) {
-        (Some(a), Some(b)) => Some(a.min(b)),
-        (one, None) | (None, one) => one,
     }
 }

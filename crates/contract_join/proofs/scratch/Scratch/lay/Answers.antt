@@ -21,9 +21,9 @@ within c = subst (λ (l : List (Option ℕ)). c.args.point.need < length l) (sym
 laid_before : (c : goal.After-self-1) → laid c.self.inside.prices.items c.args.point.need ≡ c.index.result.now
 laid_before c = laid-read c.self.inside.prices.items c.args.point.need c.index.result.now (within c) c.index.ensures
 
-price_is : (c : goal.After-self-1) → c.lesser_price.result ≡ lesser (laid c.self.inside.prices.items c.args.point.need) (Some c.args.point.cost)
+price_is : (c : goal.After-self-1) → c.lesser.result ≡ lesser (laid c.self.inside.prices.items c.args.point.need) (Some c.args.point.cost)
 price_is c =
-    c.lesser_price.ensures
+    c.lesser.ensures
     ∙ ap (λ o. lesser o (Some c.args.point.cost))
     (sym (laid-read c.self.inside.prices.items c.args.point.need c.index-2.result.now (within c)
     (subst (λ (l : List (Option ℕ)). c.index-2.result.now ≡ get_or l c.args.point.need c.index-2.result.now) (prices_same c) c.index-2.ensures)))
@@ -32,21 +32,21 @@ pub invariant_of-self-2 : goal.invariant_of-self-2
 invariant_of-self-2 c = elim c.if-is_none.branch [
   | then-is_none+in_ok-push w ↦
       touched_first c.self.inside.prices.items c.if-is_none.self-inside.prices.items c.self.inside.touched.items
-      c.args.point.need c.args.point.cost c.lesser_price.result (within c) c.self.invariant (prices_same c) (price_is c)
+      c.args.point.need c.args.point.cost c.lesser.result (within c) c.self.invariant (prices_same c) (price_is c)
       c.if-is_none.self-inside.touched.items
       (ap is_some (laid_before c) ∙ c.is_none.ensures ∙ ap not w.if-is_none.true)
       (ap (λ (i : Inside). i.touched.items) w.self-inside-is ∙ w.in_ok-push.ensures.items)
   | else-is_none w ↦
-      subst (AreTouchedOnce (set c.if-is_none.self-inside.prices.items c.args.point.need c.lesser_price.result))
+      subst (AreTouchedOnce (set c.if-is_none.self-inside.prices.items c.args.point.need c.lesser.result))
       (sym (ap (λ (i : Inside). i.touched.items) w.self-inside-is))
       (touched_again c.self.inside.prices.items c.if-is_none.self-inside.prices.items c.self.inside.touched.items
-      c.args.point.need c.args.point.cost c.lesser_price.result (within c) c.self.invariant (prices_same c) (price_is c)
+      c.args.point.need c.args.point.cost c.lesser.result (within c) c.self.invariant (prices_same c) (price_is c)
       (ap is_some (laid_before c) ∙ c.is_none.ensures ∙ ap not w.if-is_none.false))
 ]
 
 pub returns-clause-least : goal.returns-clause-least
 returns-clause-least c budget =
-    ap (λ (l : List (Option ℕ)). least_laid (set l c.args.point.need c.lesser_price.result) budget) (prices_same c)
+    ap (λ (l : List (Option ℕ)). least_laid (set l c.args.point.need c.lesser.result) budget) (prices_same c)
     ∙ ap (λ o. least_laid (set c.self.inside.prices.items c.args.point.need o) budget) (price_is c)
     ∙ least_laid-lay c.self.inside.prices.items c.args.point (within c) budget
     ∙ ap (λ (l : List (Option ℕ)). lesser (least_laid l budget) (price_of c.args.point budget)) c.self.view_is
