@@ -1,7 +1,7 @@
 //! Heads and dampers of a design: how the fan's pressure is shared, and what each section throttles so that every
 //! path takes its head.
 //!
-//! Losses and pressures are in dPa. Sections count from 0, in file order (docs/RULES.md, "Dampers").
+//! Losses and pressures are in dPa. Sections count from 0, in file order (docs/RULES.md, "Heads and dampers").
 #![tactic(auto)]
 
 mod dampers;

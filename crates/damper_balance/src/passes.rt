@@ -9,8 +9,8 @@ ghost use Rattle.duct_definitions.specs.Dampers.{head, slack};
 ghost use Rattle.damper_balance.specs.SectionNumbers.{ListsEach, number_at, greatest_at, least_at};
 
 use air_tree::AirTree;
-use duct_units::Side;
-use net_model::{Design, Network, pair_of};
+use duct_units::{Side, lesser};
+use net_model::{Design, Network, loss_at};
 
 /// Writes of each section what the sections from it to the fan lose, by the number of its neighbour, which stands
 /// earlier.
@@ -22,17 +22,6 @@ pub fn path_losses(net: &Network, d: &Design, losses: &mut [u64])
     let tree = net.tree();
     for s in 0..tree.len() {
         losses[s as usize] = loss_at(net, d, s) + number_beside(tree, losses, s);
-    }
-}
-
-fn loss_at(net: &Network, d: &Design, s: u32) -> u64
-    requires design { Meets net.now d.now }
-    requires section { s < section_count net.now.tree }
-    ensures { result ≡ loss_of (pair_of net.now d.now s) }
-{
-    match pair_of(net, d, s) {
-        Some(pair) => pair.loss,
-        None => 0,
     }
 }
 
@@ -105,18 +94,9 @@ fn least_number(sections: &[u32], numbers: &[u64]) -> Option<u64>
 {
     let mut least = None;
     for s in sections {
-        least = lesser(least, numbers[*s as usize]);
+        least = lesser(least, Some(numbers[*s as usize]));
     }
     least
-}
-
-fn lesser(least: Option<u64>, number: u64) -> Option<u64>
-    ensures { result ≡ lesser least (Some number) }
-{
-    match least {
-        Some(least) => Some(least.min(number)),
-        None => Some(number),
-    }
 }
 
 /// Takes from the number of each section its neighbour's, which is no greater.

@@ -9,7 +9,7 @@ ghost use Rattle.damper_balance.specs.SectionNumbers.{ListsEach};
 use damper_balance::balance;
 use duct_definitions::{Listed, ListedSection};
 use duct_units::{List, NoMemory};
-use net_model::{Design, Network, cost, pair_of};
+use net_model::{Design, Network, cost, loss_at, price_at};
 use std::alloc::Global;
 
 /// The fields of a design that meets the rules, dampers and cost among them.
@@ -57,15 +57,11 @@ fn listed_section(net: &Network, d: &Design, s: u32, damper: u64) -> ListedSecti
     requires damper { damper ≡ damper_of net.now d.now s }
     ensures { result ≡ listed_section net.now d.now s }
 {
-    let (loss, price) = match pair_of(net, d, s) {
-        Some(pair) => (pair.loss, pair.price),
-        None => (0, 0),
-    };
     ListedSection {
         name: net.section_name(s),
         size: net.size_name(s, d.sizes.as_slice()[s as usize]),
-        loss,
-        price,
+        loss: loss_at(net, d, s),
+        price: price_at(net, d, s),
         damper,
     }
 }

@@ -70,7 +70,7 @@ pub fn cost(net: &Network, d: &Design) -> u64
 }
 
 /// What section `s` loses and costs in the design; None where its size can't be joined to its neighbour's.
-pub fn pair_of(net: &Network, d: &Design, s: u32) -> Option<Pair>
+fn pair_of(net: &Network, d: &Design, s: u32) -> Option<Pair>
     requires fits { Fits net.now d.now }
     requires section { s < section_count net.now.tree }
     ensures { result ≡ pair_of net.now d.now s }
@@ -98,7 +98,8 @@ fn has_pairs(net: &Network, d: &Design) -> bool
     true
 }
 
-fn loss_at(net: &Network, d: &Design, s: u32) -> u64
+/// What section `s` loses in the design, dPa; 0 where its size can't be joined to its neighbour's.
+pub fn loss_at(net: &Network, d: &Design, s: u32) -> u64
     requires fits { Fits net.now d.now }
     requires section { s < section_count net.now.tree }
     ensures { result ≡ loss_of (pair_of net.now d.now s) }
@@ -109,7 +110,8 @@ fn loss_at(net: &Network, d: &Design, s: u32) -> u64
     }
 }
 
-fn price_at(net: &Network, d: &Design, s: u32) -> u64
+/// What section `s` costs in the design, cents; 0 where its size can't be joined to its neighbour's.
+pub fn price_at(net: &Network, d: &Design, s: u32) -> u64
     requires fits { Fits net.now d.now }
     requires section { s < section_count net.now.tree }
     ensures { result ≡ price_of (pair_of net.now d.now s) }

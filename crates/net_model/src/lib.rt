@@ -8,6 +8,6 @@
 mod designs;
 mod network;
 
-pub use designs::{cost, meets, pair_of, path_loss, worst};
+pub use designs::{cost, loss_at, meets, path_loss, price_at, worst};
 pub use duct_definitions::{Design, NetFan, Pair};
 pub use network::Network;

@@ -10,7 +10,7 @@ use crate::read_network;
 use duct_definitions::Design;
 use duct_units::Side::{Return, Supply};
 use duct_units::{List, Name};
-use net_model::{Network, cost, meets, pair_of, path_loss, worst};
+use net_model::{Network, cost, loss_at, meets, path_loss, worst};
 use std::alloc::{AllocError, Global};
 use std::test::Fail;
 
@@ -379,7 +379,7 @@ fn sums(alloc: Global, net: &Network) -> Result<String, Fail> {
     }
     let mut text = String::new(alloc);
     for s in 0..net.tree().len() {
-        let loss = pair_of(net, &d, s).map_or(0, |pair| pair.loss);
+        let loss = loss_at(net, &d, s);
         write!(text, "{} {loss}", spelled(&net.section_name(s)))?;
         if net.tree().is_leaf(s) {
             write!(text, " ({})", path_loss(net, &d, s))?;
