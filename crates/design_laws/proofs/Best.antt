@@ -10,7 +10,7 @@ use Rattle.duct_definitions.specs.Tree.{section_count}
 use Rattle.duct_definitions.specs.Network.{Network, size_count, fan_at}
 use Rattle.duct_definitions.specs.Designs.{Meets, pair_of, worst, cost}
 use Rattle.duct_definitions.specs.Order.{Earlier, LessOr, Before, IsBest, NoneMeets}
-use Rattle.design_laws.proofs.Below.{all_below, all_below-holds, all_below-from}
+use Rattle.duct_definitions.proofs.Below.{all_below, all_below-holds, all_below-from}
 use Rattle.design_laws.proofs.Among.{list_all-among}
 use Rattle.design_laws.proofs.Listing.{designs, Among-designs}
 

@@ -8,7 +8,7 @@ use Rattle.duct_definitions.specs.Tree.{section_count}
 use Rattle.duct_definitions.specs.Network.{Network, size_count}
 use Rattle.duct_definitions.specs.Designs.{Meets}
 use Rattle.duct_definitions.specs.Order.{Before, IsBest, NoneMeets}
-use Rattle.design_laws.proofs.Below.{all_below-from}
+use Rattle.duct_definitions.proofs.Below.{all_below-from}
 use Rattle.design_laws.proofs.Among.{Among}
 use Rattle.design_laws.proofs.Listing.{designs, Among-designs}
 use Rattle.design_laws.proofs.Best.{fits, suffices, Meets-tested, suffices-from}

@@ -7,7 +7,8 @@ use Rattle.duct_definitions.specs.Tree.{Tree, IsTree, section_count, sections, n
 use Rattle.duct_definitions.specs.Dampers.{leaves_beyond}
 use Rattle.duct_definitions.proofs.TreeLaws.{earlier}
 use Rattle.design_laws.proofs.Among.{Among, Among-filter, Among-filtered, Among-range, list_any-among, among-list_any}
-use Rattle.design_laws.proofs.Ways.{way-beside, same_side-same, same_side-true, neighbour_side, along_way}
+use Rattle.duct_definitions.proofs.WayLaws.{way-beside}
+use Rattle.design_laws.proofs.Ways.{same_side-same, same_side-true, neighbour_side, along_way}
 
 among_sections : (t : Tree) (s : ℕ) → s < section_count t → Among s (sections t)
 among_sections t s within = Among-range 0 (section_count t) s (omega arith) (omega arith)

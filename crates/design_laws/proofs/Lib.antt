@@ -1,5 +1,4 @@
 pub mod Among
-pub mod Below
 pub mod Ways
 pub mod Beyond
 pub mod Throttled

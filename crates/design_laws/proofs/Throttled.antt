@@ -14,7 +14,8 @@ use Rattle.duct_definitions.specs.Dampers.{head, leaves_beyond, slack, slack_bes
 use Rattle.duct_definitions.proofs.TreeLaws.{earlier}
 use Rattle.design_laws.specs.Paths.{IsLeafOf, throttled_loss, PathsTakeHeads, PathsTakePressure, SupplyTakesPressure}
 use Rattle.design_laws.proofs.Among.{Among, le-max, least_of-le, least_of-reached}
-use Rattle.design_laws.proofs.Ways.{way-at_fan, way-beside, neighbour_side}
+use Rattle.duct_definitions.proofs.WayLaws.{way-at_fan, way-beside}
+use Rattle.design_laws.proofs.Ways.{neighbour_side}
 use Rattle.design_laws.proofs.Beyond.{IsBeyond, goes_on, alone_on_way, is_within, Among-leaves, Among-leaves_beyond, IsBeyond-from, IsBeyond-way}
 
 slack-le : (net : Network) (d : Design) (s leaf : ℕ) → IsBeyond net.tree s leaf

@@ -8,30 +8,8 @@ use Rattle.duct_units.specs.Rules.{Rule, first_broken, at_section}
 use Rattle.duct_units.proofs.RuleLaws.{rule_holds}
 use Rattle.duct_definitions.specs.Tree.{Tree, IsTree, section_count, neighbour, side, same_side, from_neighbour, way_within, way, is_before, is_on_side}
 use Rattle.duct_definitions.proofs.TreeLaws.{rules_hold, earlier}
+use Rattle.duct_definitions.proofs.WayLaws.{way-at_fan, way-beside}
 use Rattle.design_laws.proofs.Among.{Among}
-
--- more room than a way needs does not change it
-way_within-same : (t : Tree) → IsTree t → (j k s : ℕ) → s < j → s < k → s < section_count t
-    → way_within j t s ≡ way_within k t s
-way_within-same t tree zero k s small less within = absurd (omega arith)
-way_within-same t tree (suc j) zero s small less within = absurd (omega arith)
-way_within-same t tree (suc j) (suc k) s small less within =
-    elim (neighbour t s) as
-    (λ o. neighbour t s ≡ o → s ∷ from_neighbour (way_within j t) o ≡ s ∷ from_neighbour (way_within k t) o) [
-      | None ↦ λ is. refl
-      | Some n ↦ λ is.
-          let before = earlier t s n tree within is in
-          ap (λ rest. s ∷ rest) (way_within-same t tree j k n (omega arith) (omega arith) (omega arith))
-    ] refl
-
-pub way-at_fan : (t : Tree) (s : ℕ) → neighbour t s ≡ None → way t s ≡ s ∷ []
-way-at_fan t s is = ap (λ o. s ∷ from_neighbour (way_within s t) o) is
-
-pub way-beside : (t : Tree) (s n : ℕ) → IsTree t → s < section_count t → neighbour t s ≡ Some n → way t s ≡ s ∷ way t n
-way-beside t s n tree within is =
-    let before = earlier t s n tree within is in
-    ap (λ o. s ∷ from_neighbour (way_within s t) o) is
-    ∙ ap (λ rest. s ∷ rest) (way_within-same t tree s (suc n) n before (omega arith) (omega arith))
 
 pub same_side-true : (x y : Side) → same_side x y ≡ true → x ≡ y
 same_side-true Supply Supply is = refl

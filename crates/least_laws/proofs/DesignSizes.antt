@@ -12,7 +12,8 @@ use Rattle.duct_definitions.specs.Tree.{Tree, IsTree, section_count, sections, n
 use Rattle.duct_definitions.specs.Network.{Network, pair_at, fan_at}
 use Rattle.duct_definitions.specs.Designs.{Meets, size_beside, pair_of, loss_of, price_of, path_loss, worst, cost}
 use Rattle.design_laws.proofs.Among.{Among, Among-filtered, le-max}
-use Rattle.design_laws.proofs.Ways.{way-at_fan, way-beside, neighbour_side, same_side-true}
+use Rattle.duct_definitions.proofs.WayLaws.{way-at_fan, way-beside}
+use Rattle.design_laws.proofs.Ways.{neighbour_side, same_side-true}
 use Rattle.design_laws.proofs.Beyond.{Among-leaves, is_within}
 use Rattle.std.proofs.lemmas.Bool.{and_parts}
 use Rattle.tree_sums.specs.Route.{Fan, same_end, goes_by}

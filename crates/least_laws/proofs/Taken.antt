@@ -8,7 +8,8 @@ use Rattle.duct_definitions.specs.Tree.{IsTree, section_count, neighbour, side, 
 use Rattle.duct_definitions.specs.Network.{Network, columns, columns_beside}
 use Rattle.duct_definitions.specs.Designs.{size_beside, pair_of, loss_of, path_loss}
 use Rattle.duct_definitions.proofs.TreeLaws.{earlier}
-use Rattle.design_laws.proofs.Ways.{way-at_fan, way-beside, neighbour_side}
+use Rattle.duct_definitions.proofs.WayLaws.{way-at_fan, way-beside}
+use Rattle.design_laws.proofs.Ways.{neighbour_side}
 use Rattle.least_laws.specs.LeastIn.{least_in}
 use Rattle.least_laws.specs.Choosing.{Attains, left_beside, IsDescent}
 use Rattle.least_laws.proofs.Ducts.{loss, sum_from}

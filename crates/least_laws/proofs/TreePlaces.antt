@@ -10,7 +10,7 @@ use Rattle.std.specs.List.{range_with_len, list_any}
 use Rattle.duct_units.specs.declared.side.Side.{Side}
 use Rattle.duct_definitions.specs.Tree.{Tree, IsTree, section_count, neighbour, side, way, passes}
 use Rattle.duct_definitions.proofs.TreeLaws.{earlier}
-use Rattle.design_laws.proofs.Ways.{way-at_fan, way-beside}
+use Rattle.duct_definitions.proofs.WayLaws.{way-at_fan, way-beside}
 use Rattle.tree_sums.specs.Route.{Place, Fan, At, same, Falls, goes_by}
 use Rattle.tree_sums.specs.Sums.{along, total, gated}
 use Rattle.tree_sums.proofs.Climb.{climb}

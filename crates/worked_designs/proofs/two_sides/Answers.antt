@@ -2,7 +2,7 @@ use Rattle.std.proofs.Common.{refl}
 use Rattle.std.specs.Fmt.{digits}
 use Rattle.duct_definitions.specs.DesignText.{line}
 use Rattle.worked_designs.specs.TwoSides.{network, design}
-use Rattle.worked_designs.proofs.Valid.{IsNetwork-tested}
+use Rattle.duct_definitions.proofs.Valid.{IsNetwork-tested}
 use Rattle.design_laws.proofs.Best.{IsBest-tested}
 use Rattle.worked_designs.proofs.two_sides.Goals as goal
 
