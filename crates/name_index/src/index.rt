@@ -36,6 +36,13 @@ impl NameIndex {
         }
     }
 
+    /// How many names there are.
+    pub fn len(&self) -> usize
+        ensures { result ≡ length self.now }
+    {
+        self.names.len()
+    }
+
     /// Adds the name at the end, and says whether it did: a name that is there already isn't added again.
     pub fn add(&mut self, name: Name) -> Result<bool, NoMemory>
         ensures value { IfOk result (λ added. added ≡ not (is_among name self.old)) }

@@ -13,10 +13,12 @@ use Rattle.std.proofs.lemmas.Bool.Decides.{nat_tests}
 use Rattle.size_catalogue.specs.declared.limits.TheConstants.{MAX_LISTS, MAX_LIST_SIZES}
 use Rattle.size_catalogue.specs.declared.row.Size.{Size}
 use Rattle.size_catalogue.specs.declared.row.SizeRow.{SizeRow}
-use Rattle.size_catalogue.specs.Places.{place_of, is_among, EachOnce}
+use Rattle.name_index.specs.Places.{place_of, is_among}
+use Rattle.size_catalogue.specs.Places.{EachOnce}
 use Rattle.size_catalogue.specs.SizeRow.{IsRowInBounds}
 use Rattle.size_catalogue.specs.Catalogue.{Catalogue, IsCatalogue, IsSize, names_of, numbers_of, list_number, lists_with, size_in_list, with_size}
-use Rattle.size_catalogue.proofs.PlaceLaws.{place_of-within, EachOnce-push, not_among}
+use Rattle.name_index.proofs.PlaceLaws.{place_of-within}
+use Rattle.size_catalogue.proofs.PlaceLaws.{EachOnce-push, not_among}
 use Rattle.size_catalogue.proofs.NumberLaws.{few_sizes, numbers_of-push}
 
 -- 16 lists of 24 sizes are 384 sizes

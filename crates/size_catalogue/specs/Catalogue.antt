@@ -8,7 +8,8 @@ use Rattle.duct_units.specs.Name.{is_name}
 use Rattle.size_catalogue.specs.declared.limits.TheConstants.{MAX_LISTS, MAX_LIST_SIZES, MIN_AREA, MAX_AREA, MAX_HEIGHT, MAX_METRE_PRICE, MAX_JOIN_PRICE}
 use Rattle.size_catalogue.specs.declared.row.Size.{Size}
 use Rattle.size_catalogue.specs.declared.row.SizeRow.{SizeRow}
-use Rattle.size_catalogue.specs.Places.{place_of, is_among, EachOnce}
+use Rattle.name_index.specs.Places.{place_of, is_among}
+use Rattle.size_catalogue.specs.Places.{EachOnce}
 
 pub record Catalogue : Type 0 where
   pub lists : List (List ℕ)

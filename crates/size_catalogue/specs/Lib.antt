@@ -1,5 +1,4 @@
 pub mod Places
-pub mod PlacesHeld
 pub mod SizeRow
 pub mod Catalogue
 pub mod Numbers

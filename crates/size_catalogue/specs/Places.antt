@@ -1,20 +1,6 @@
--- Where a name stands among others.
---   place_of name names   the first place, from 0, at which the name stands, or none
---   is_among name names   whether the name stands anywhere
---   EachOnce names        no two names are equal
-use Rattle.std.specs.Prelude.{◌≡◌, ℕ, ◌+◌, List, [], ◌∷◌, ◌++◌, Bool, if◌then◌else◌, Option, Some, None, option_map, is_some, slice_get}
-use Rattle.std.specs.Str.{bytes_eq}
-
-abbrev pub place_of : List ℕ → List (List ℕ) → Option ℕ
-place_of name [] = None
-place_of name (first ∷ names) = if bytes_eq first name then Some 0 else option_map (λ place. place + 1) (place_of name names)
-
-abbrev pub is_among : List ℕ → List (List ℕ) → Bool
-is_among name names = is_some (place_of name names)
-
--- the names, and behind them one more where it was added
-abbrev pub with_name : Bool → List ℕ → List (List ℕ) → List (List ℕ)
-with_name added name names = if added then names ++ name ∷ [] else names
+-- Names of which no two are equal.
+use Rattle.std.specs.Prelude.{◌≡◌, ℕ, List, Some, slice_get}
+use Rattle.name_index.specs.Places.{place_of}
 
 -- each name is found at its own place
 abbrev pub EachOnce : List (List ℕ) → Type 0

@@ -6,7 +6,7 @@ use Rattle.duct_units.specs.Rules.{Rule}
 use Rattle.file_definitions.specs.Rows.{Row, RowForm, rows_of, at_row, reading}
 use Rattle.size_catalogue.specs.declared.limits.TheConstants.{MAX_LISTS, MAX_LIST_SIZES}
 use Rattle.size_catalogue.specs.declared.row.SizeRow.{SizeRow}
-use Rattle.size_catalogue.specs.Places.{is_among}
+use Rattle.name_index.specs.Places.{is_among}
 use Rattle.size_catalogue.specs.SizeRow.{size_of_row}
 use Rattle.size_catalogue.specs.Catalogue.{Catalogue, names_of, numbers_of, list_number, lists_with, with_size}
 

@@ -5,7 +5,6 @@
 #![tactic(auto)]
 
 mod limits;
-mod names;
 mod numbers;
 mod reading;
 mod row;

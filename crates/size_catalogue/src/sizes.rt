@@ -1,17 +1,17 @@
 //! The catalogue.
 ghost use Rattle.std.specs.Prelude.{◌≡◌, ◌+◌, ◌*◌, ◌<◌, ◌≤◌, ◌↔◌, [], length, slice_get, Contains, Some, IfSome, IsNone, IfOk, OnOk};
 ghost use Rattle.file_definitions.specs.Rows.{TakesRow, TakesItem};
-ghost use Rattle.size_catalogue.specs.Places.{place_of};
+ghost use Rattle.name_index.specs.Places.{place_of};
 ghost use Rattle.size_catalogue.specs.SizeRow.{IsRowInBounds};
 ghost use Rattle.size_catalogue.specs.Catalogue.{IsSize, IsCatalogue, names_of, numbers_of, list_number, lists_with};
 ghost use Rattle.size_catalogue.specs.Reading.{sizes_form};
 
 use crate::limits::{MAX_LIST_SIZES, MAX_LISTS};
-use crate::names::NameOrder;
 use crate::numbers::add_number;
 use crate::row::{Size, SizeRow, size_row};
 use csv_fields::Rows;
 use duct_units::{Name, NoMemory, ReadError, Reason};
+use name_index::NameIndex;
 use std::alloc::Global;
 use std::marker::Model;
 
@@ -21,8 +21,8 @@ const COLUMNS: usize = 7;
 /// Sizes in lists. Lists count from 0 in the order in which they first appear, sizes from 0 in file order.
 #[derive(Drop)]
 pub struct Sizes {
-    lists: NameOrder,
-    names: NameOrder,
+    lists: NameIndex,
+    names: NameIndex,
     sizes: Vec<Size>,
     numbers: Vec<Vec<u32>>,
 }
@@ -46,8 +46,8 @@ impl Sizes {
         ensures sizes { result.sizes ≡ [] }
     {
         Sizes {
-            lists: NameOrder::new(alloc),
-            names: NameOrder::new(alloc),
+            lists: NameIndex::new(alloc),
+            names: NameIndex::new(alloc),
             sizes: Vec::new(alloc),
             numbers: Vec::new(alloc),
         }
@@ -135,10 +135,10 @@ impl Sizes {
             mut sizes,
             mut numbers,
         } = self;
-        if !names.add(alloc, row.name)? {
+        if !names.add(row.name)? {
             return Err(ReadError::Refused(rows.fault(Reason::Twice)));
         }
-        let list = list_number(alloc, &mut lists, row.list)?;
+        let list = list_number(&mut lists, row.list)?;
         if lists.len() > MAX_LISTS || !add_number(alloc, &mut numbers, list, sizes.len() as u32)? {
             return Err(ReadError::Refused(rows.fault(Reason::TooMany)));
         }
@@ -153,7 +153,7 @@ impl Sizes {
 }
 
 // The number of the list with the name, which is added where it is new.
-fn list_number(alloc: Global, lists: &mut NameOrder, name: Name) -> Result<usize, NoMemory>
+fn list_number(lists: &mut NameIndex, name: Name) -> Result<usize, NoMemory>
     ensures value { IfOk result (λ list. list ≡ list_number name lists.old) }
     ensures lists { OnOk result (lists.new ≡ lists_with name lists.old) }
 {
@@ -161,6 +161,6 @@ fn list_number(alloc: Global, lists: &mut NameOrder, name: Name) -> Result<usize
         return Ok(list);
     }
     let list = lists.len();
-    lists.add(alloc, name)?;
+    lists.add(name)?;
     Ok(list)
 }

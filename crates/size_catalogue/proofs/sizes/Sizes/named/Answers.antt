@@ -1,7 +1,7 @@
 use Rattle.std.proofs.Common.{◌≡◌, true, false, Some, Contains, subst, arith, ◌∙◌, ap, length}
 use Rattle.std.proofs.lemmas.List.{length-map}
 use Rattle.size_catalogue.specs.declared.row.Size.{Size}
-use Rattle.size_catalogue.specs.Places.{place_of}
+use Rattle.name_index.specs.Places.{place_of}
 use Rattle.size_catalogue.specs.Catalogue.{Catalogue, names_of}
 use Rattle.size_catalogue.specs.CatalogueHeld.{catalogue_held}
 use Rattle.size_catalogue.proofs.CatalogueLaws.{few}

@@ -2,7 +2,7 @@ use Rattle.std.proofs.Common.{◌≡◌, ℕ, ◌+◌, ◌≤◌, ◌<◌, vec_l
 use Rattle.std.specs.Prelude.{◌==◌, if◌then◌else◌}
 use Rattle.size_catalogue.specs.declared.limits.TheConstants.{MAX_LISTS, MAX_LIST_SIZES}
 use Rattle.size_catalogue.specs.Numbers.{numbers_at, with_number}
-use Rattle.size_catalogue.specs.Places.{is_among}
+use Rattle.name_index.specs.Places.{is_among}
 use Rattle.size_catalogue.specs.Catalogue.{IsCatalogue, names_of, numbers_of, list_number, lists_with, size_in_list}
 use Rattle.size_catalogue.specs.CatalogueHeld.{catalogue_held}
 use Rattle.size_catalogue.proofs.CatalogueLaws.{few, list_number-most, names_of-push, numbers_held, as_many, with_size_is, not_there, had_room, IsCatalogue-with_size}
