@@ -4,7 +4,7 @@ use Rattle.duct_units.specs.declared.fault.Fault.{Fault}
 use Rattle.duct_units.specs.declared.fault.Reason.TheVariants.{UnknownSize, TooMany, Order, Missing}
 use Rattle.duct_units.specs.Rules.{Rule}
 use Rattle.file_definitions.specs.Rows.{Row, RowForm, rows_of, at_row, at_size, size_fault, reading}
-use Rattle.size_catalogue.specs.Places.{place_of}
+use Rattle.name_index.specs.Places.{place_of}
 use Rattle.size_catalogue.specs.Catalogue.{Catalogue, names_of}
 use Rattle.friction_table.specs.declared.limits.TheConstants.{MAX_ROWS}
 use Rattle.friction_table.specs.declared.row.FlowRate.{FlowRate}
