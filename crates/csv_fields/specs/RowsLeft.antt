@@ -23,4 +23,5 @@ Advances old new found = MatchBool found (IsNextRow old new) (old.left ≡ [])
 -- the rows behind the header, or its refusal
 abbrev pub opened : Row → List Row → Result RowsLeft Fault
 opened header [] = Err (row_fault 1 Header)
-opened header (first ∷ rows) = if has_fields header first then Ok (record { number = 1; row = first; left = rows }) else Err (row_fault 1 Header)
+opened header (first ∷ rows) =
+    if has_fields header first then Ok (record { number = 1; row = first; left = rows }) else Err (row_fault 1 Header)

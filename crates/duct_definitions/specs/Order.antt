@@ -14,7 +14,8 @@ Earlier xs ys = ⊥
 abbrev pub LessOr : ℕ → ℕ → Type 0 → Type 0
 LessOr m n Then = (m < n) ⊎ ((m ≡ n) × Then)
 
--- less cost; then the earlier fan; then the less worst supply loss; then the earlier sizes, in file order of the sections
+-- less cost; then the earlier fan; then the less worst supply loss; then the earlier sizes, in file order of the
+-- sections
 abbrev pub Before : Network → Design → Design → Type 0
 Before net d e =
     LessOr (cost net d) (cost net e)

@@ -14,6 +14,7 @@ pub struct Pair {
 /// A fan on offer.
 #[derive(Clone, Copy)]
 pub struct NetFan {
+    /// The name by which a design names it.
     pub name: Name,
     /// The pressure that the fan gives, dPa.
     pub pressure: u64,

@@ -17,6 +17,7 @@ pub struct DiskFiles<'r, 'w, R: std::rt::Files> {
 }
 
 impl<'r, 'w, R: std::rt::Files> DiskFiles<'r, 'w, R> {
+    /// The files of the runtime; none is started.
     pub fn new(rt: &'r R) -> DiskFiles<'r, 'w, R>
         ensures names { ⟦<DiskFiles<'r, 'w, R> as Files<'w>>⟧.asked result ≡ [] }
         ensures faults { ⟦<DiskFiles<'r, 'w, R> as Files<'w>>⟧.fault_count result ≡ 0 }

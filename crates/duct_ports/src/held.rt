@@ -9,7 +9,9 @@ use std::marker::Model;
 /// A name and the bytes that it holds.
 #[derive(Debug, Drop)]
 pub struct HeldFile {
+    /// The name by which it is asked for.
     pub name: List<u8>,
+    /// What it holds.
     pub bytes: List<u8>,
 }
 

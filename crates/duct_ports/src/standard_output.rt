@@ -11,6 +11,7 @@ pub struct StdSink<'r, R: Print> {
 }
 
 impl<'r, R: Print> StdSink<'r, R> {
+    /// The standard output of the runtime.
     pub fn new(rt: &'r R) -> StdSink<'r, R>
         ensures { ⟦<StdSink<'r, R> as Sink>⟧.fault_count result ≡ 0 }
     {

@@ -17,6 +17,7 @@ pub struct SureFiles<'w> {
 impl<'w> SureFiles<'w> {
     ghost use Rattle.duct_ports.specs.Held.{contents_of};
 
+    /// These files; none is started.
     pub fn new(files: List<HeldFile>) -> SureFiles<'w>
         ensures names { ⟦<SureFiles<'w> as Files<'w>>⟧.asked result ≡ [] }
         ensures held { ⟦<SureFiles<'w> as Files<'w>>⟧.held result ≡ Some (contents_of files) }
@@ -65,6 +66,7 @@ impl<'w> Files<'w> for SureFiles<'w> {
 pub struct SureSink;
 
 impl SureSink {
+    /// A sink that keeps nothing.
     pub fn new() -> SureSink {
         SureSink
     }

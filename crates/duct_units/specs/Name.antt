@@ -11,7 +11,8 @@ is_within low high byte = nat_le low byte && nat_le byte high
 -- a to z, A to Z, 0 to 9, `_`, `-` or `.`
 abbrev pub is_name_byte : ℕ → Bool
 is_name_byte byte =
-    ((is_within 97 122 byte || is_within 65 90 byte) || is_within 48 57 byte) || ((byte == 95 || byte == 45) || byte == 46)
+    ((is_within 97 122 byte || is_within 65 90 byte) || is_within 48 57 byte)
+    || ((byte == 95 || byte == 45) || byte == 46)
 
 -- 1 to 32 bytes, each of them one of these
 abbrev pub is_name : List ℕ → Bool
@@ -32,5 +33,6 @@ pub record IsHeld (bytes : List ℕ) (len : ℕ) : Type 0 where
   pub rest : padded (take len bytes) ≡ bytes
 
 -- a name with its zeros gives all bytes back, and has the stated length
-pub held_again : (bytes : List ℕ) (len : ℕ) → IsHeld bytes len → (padded (take len bytes) ≡ bytes) × (length (take len bytes) ≡ len)
+pub held_again : (bytes : List ℕ) (len : ℕ) → IsHeld bytes len
+    → (padded (take len bytes) ≡ bytes) × (length (take len bytes) ≡ len)
 held_again bytes len held = (held.rest, length-take-le len bytes held.within)

@@ -88,9 +88,11 @@ pub struct NoMemory;
 #[derive(Clone, Copy, Debug, PartialEq, Eq, Error)]
 #[error("refused at {part:?} {place}: {reason:?}")]
 pub struct Fault {
+    /// What the place counts.
     pub part: Part,
     /// Counts from 1; 0 at a file as a whole.
     pub place: u32,
+    /// What is wrong there.
     pub reason: Reason,
 }
 

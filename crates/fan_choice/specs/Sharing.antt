@@ -1,5 +1,5 @@
 -- The ways to share fans' pressures out, and the first cheapest of them.
---   share number fan point rest        the supply side takes the point, and the rest of the pressure buys the other side
+--   share number fan point rest        the point for the supply side, and the rest of the pressure for the other
 --   share_at number fan back point     the same with the return side's cheapest, where the pressure covers the point
 --   shares number fan supply back k    the share of the supply point at place k
 --   cheaper best next                  the cheaper of the two, the first of equal ones, or the one that is there

@@ -61,7 +61,8 @@ name_at key ms = option_and_then name_of (text_at key ms)
 -- what each value is, where every one is of the kind
 abbrev pub all_of : {A : Type 0} → (Data → Option A) → List Data → Option (List A)
 all_of kind [] = Some []
-all_of kind (value ∷ values) = option_and_then (λ first. option_map (λ others. first ∷ others) (all_of kind values)) (kind value)
+all_of kind (value ∷ values) =
+    option_and_then (λ first. option_map (λ others. first ∷ others) (all_of kind values)) (kind value)
 
 abbrev pub tables_at : List ℕ → Members → Option (List Members)
 tables_at key ms = option_and_then (all_of as_table) (items_at key ms)

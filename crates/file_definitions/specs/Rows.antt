@@ -90,7 +90,9 @@ own_rules form n s (Some item) = form.own n s item
 -- the rules of the n-th row after rows that said s
 abbrev pub row_rules : {S A : Type 0} → RowForm S A → ℕ → S → Row → List Rule
 row_rules form n s row =
-    at_row n (length row == length form.header) Columns ∷ at_row n (is_some (form.item row)) Field ∷ own_rules form n s (form.item row)
+    at_row n (length row == length form.header) Columns
+    ∷ at_row n (is_some (form.item row)) Field
+    ∷ own_rules form n s (form.item row)
 
 -- what rows say with one more; a row without an item adds nothing
 abbrev pub with_row : {S A : Type 0} → RowForm S A → S → Option A → S
@@ -100,7 +102,8 @@ with_row form s (Some item) = form.with_item s item
 -- the rules of the rows from the n-th on, after rows that said s
 abbrev pub rules_from : {S A : Type 0} → RowForm S A → ℕ → S → List Row → List Rule
 rules_from form n s [] = []
-rules_from form n s (row ∷ rows) = row_rules form n s row ++ rules_from form (n + 1) (with_row form s (form.item row)) rows
+rules_from form n s (row ∷ rows) =
+    row_rules form n s row ++ rules_from form (n + 1) (with_row form s (form.item row)) rows
 
 -- what the rows say, after rows that said s
 abbrev pub said_from : {S A : Type 0} → RowForm S A → S → List Row → S
@@ -109,13 +112,17 @@ said_from form s (row ∷ rows) = said_from form (with_row form s (form.item row
 
 -- what reading comes to from the n-th row on, after rows that said s
 abbrev pub reading_from : {S A : Type 0} → RowForm S A → ℕ → S → List Row → Result S Fault
-reading_from form n s rows = unless_refused (first_broken (rules_from form n s rows ++ form.last (said_from form s rows))) (said_from form s rows)
+reading_from form n s rows =
+    let said = said_from form s rows in unless_refused (first_broken (rules_from form n s rows ++ form.last said)) said
 
 -- the header is row 1
 abbrev pub reading : {S A : Type 0} → RowForm S A → List Row → Result S Fault
 reading form [] = Err (row_fault 1 Header)
 reading form (first ∷ rows) =
-    unless_refused (first_broken (at_row 1 (has_fields form.header first) Header ∷ (rules_from form 2 form.empty rows ++ form.last (said_from form form.empty rows)))) (said_from form form.empty rows)
+    unless_refused
+    (first_broken (at_row 1 (has_fields form.header first) Header
+    ∷ (rules_from form 2 form.empty rows ++ form.last (said_from form form.empty rows))))
+    (said_from form form.empty rows)
 
 -- the item of the n-th row was taken: none of the file's own rules is broken, and the item was added; or the call
 -- answered the fault of the first broken one; or memory ran out
@@ -126,6 +133,7 @@ TakesItem form n s item (Err NoMemory) = Unit {0}
 
 -- the same of the n-th row with all its rules
 abbrev pub TakesRow : {S A : Type 0} → RowForm S A → ℕ → S → Row → Result S ReadError → Type 0
-TakesRow form n s row (Ok new) = (first_broken (row_rules form n s row) ≡ None) × (new ≡ with_row form s (form.item row))
+TakesRow form n s row (Ok new) =
+    (first_broken (row_rules form n s row) ≡ None) × (new ≡ with_row form s (form.item row))
 TakesRow form n s row (Err (Refused fault)) = first_broken (row_rules form n s row) ≡ Some fault
 TakesRow form n s row (Err NoMemory) = Unit {0}

@@ -32,7 +32,10 @@ IsRateInBounds rate = (rate.num ≤ MAX_RATE * rate.den) × (1 ≤ rate.den) × 
 abbrev pub rate_between : ℕ → FlowRate → FlowRate → Fraction
 rate_between flow lower upper =
     if lower.flow == upper.flow then whole_rate lower
-    else record { num = lower.rate * (upper.flow - lower.flow) + (flow - lower.flow) * (upper.rate - lower.rate); den = upper.flow - lower.flow }
+    else record {
+      num = lower.rate * (upper.flow - lower.flow) + (flow - lower.flow) * (upper.rate - lower.rate);
+      den = upper.flow - lower.flow;
+    }
 
 -- below the first row its rate holds, and above the last row there is none
 abbrev pub rate_of : ℕ → Option FlowRate → Option FlowRate → Option Fraction
@@ -55,4 +58,7 @@ IsAboveAll flow rows = All (λ row. row.flow < flow) rows
 -- the loss over the length in mm, dPa: rounded up once from the exact rate
 abbrev pub IsFrictionLoss : List FlowRate → ℕ → ℕ → ℕ → Type 0
 IsFrictionLoss rows flow length loss =
-    IfSome (rate_at flow rows) (λ rate. IsCeiling (pos (length * rate.num)) (pos (MILLIMETRES_PER_METRE * MILLIPASCALS_PER_DECIPASCAL * rate.den)) (pos loss))
+    IfSome (rate_at flow rows) (λ rate. IsCeiling
+    (pos (length * rate.num))
+    (pos (MILLIMETRES_PER_METRE * MILLIPASCALS_PER_DECIPASCAL * rate.den))
+    (pos loss))

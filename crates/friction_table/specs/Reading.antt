@@ -26,7 +26,9 @@ size_number sizes row = place_of row.size (names_of sizes.sizes)
 abbrev pub rules_of_size : ℕ → List (List FlowRate) → FrictionRow → Option ℕ → List Rule
 rules_of_size n before row None = at_row n false UnknownSize ∷ []
 rules_of_size n before row (Some size) =
-    at_row n (nat_lt (length (table_of before size)) MAX_ROWS) TooMany ∷ at_row n (may_follow (table_of before size) row.at) Order ∷ []
+    at_row n (nat_lt (length (table_of before size)) MAX_ROWS) TooMany
+    ∷ at_row n (may_follow (table_of before size) row.at) Order
+    ∷ []
 
 -- the row is added to the table of its size
 abbrev pub with_rate : List (List FlowRate) → FrictionRow → Option ℕ → List (List FlowRate)

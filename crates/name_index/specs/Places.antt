@@ -6,7 +6,8 @@ use Rattle.std.specs.Str.{bytes_eq}
 
 abbrev pub place_of : List ℕ → List (List ℕ) → Option ℕ
 place_of name [] = None
-place_of name (first ∷ names) = if bytes_eq first name then Some 0 else option_map (λ place. place + 1) (place_of name names)
+place_of name (first ∷ names) =
+    if bytes_eq first name then Some 0 else option_map (λ place. place + 1) (place_of name names)
 
 abbrev pub is_among : List ℕ → List (List ℕ) → Bool
 is_among name names = is_some (place_of name names)

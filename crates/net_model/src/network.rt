@@ -43,8 +43,22 @@ impl Network {
         pairs: List<List<Option<Pair>>>,
         fans: List<NetFan>,
     ) -> Network
-        requires { IsNetwork (record { name = name; tree = tree; names = names; sizes = sizes; pairs = pairs; fans = fans }) }
-        ensures { result ≡ record { name = name; tree = tree; names = names; sizes = sizes; pairs = pairs; fans = fans } }
+        requires { IsNetwork (record {
+          name = name;
+          tree = tree;
+          names = names;
+          sizes = sizes;
+          pairs = pairs;
+          fans = fans;
+        }) }
+        ensures { result ≡ record {
+          name = name;
+          tree = tree;
+          names = names;
+          sizes = sizes;
+          pairs = pairs;
+          fans = fans;
+        } }
     {
         Network {
             name,
@@ -56,12 +70,14 @@ impl Network {
         }
     }
 
+    /// The name of the project.
     pub fn name(&self) -> Name
         ensures { result ≡ self.now.name }
     {
         self.name
     }
 
+    /// The tree of its sections.
     pub fn tree(&self) -> &AirTree
         ensures tree { result.now ≡ self.now.tree }
         ensures network { IsNetwork self.now }
@@ -69,6 +85,7 @@ impl Network {
         &self.tree
     }
 
+    /// The name of section `s`, from 0 in file order.
     pub fn section_name(&self, s: u32) -> Name
         requires { s < section_count self.now.tree }
         ensures { result ≡ section_name self.now s }
@@ -76,7 +93,7 @@ impl Network {
         self.names.as_slice()[s as usize]
     }
 
-    /// How many sizes the section can have.
+    /// How many sizes section `s` can have.
     pub fn size_count(&self, s: u32) -> u32
         requires { s < section_count self.now.tree }
         ensures { result ≡ size_count self.now s }
@@ -85,6 +102,7 @@ impl Network {
         sizes.as_slice().len() as u32
     }
 
+    /// The name of size `k` of section `s`, from 0 in the section's own list.
     pub fn size_name(&self, s: u32, k: u32) -> Name
         requires section { s < section_count self.now.tree }
         requires size { k < size_count self.now s }
@@ -94,12 +112,14 @@ impl Network {
         sizes.as_slice()[k as usize]
     }
 
+    /// How many fans are on offer.
     pub fn fan_count(&self) -> u32
         ensures { result ≡ length self.now.fans }
     {
         self.fans.as_slice().len() as u32
     }
 
+    /// Fan `i`, from 0 in file order.
     pub fn fan(&self, i: u32) -> NetFan
         requires { i < length self.now.fans }
         ensures value { result ≡ fan_at self.now i }
@@ -108,7 +128,7 @@ impl Network {
         self.fans.as_slice()[i as usize]
     }
 
-    /// How many sizes stand beside the section: its neighbour's, and 1 at the fan.
+    /// How many sizes stand beside section `s`: its neighbour's, and 1 at the fan.
     pub fn columns(&self, s: u32) -> u32
         requires { s < section_count self.now.tree }
         ensures { result ≡ columns self.now s }

@@ -34,7 +34,10 @@ abbrev pub neighbours_rules : List SectionEntry → List Rule
 neighbours_rules sections = each (neighbour_rules sections) sections
 
 abbrev pub tree_of : List SectionEntry → Tree
-tree_of sections = record { neighbours = map (neighbour_of sections) sections; sides = map (λ section. section.side) sections }
+tree_of sections = record {
+  neighbours = map (neighbour_of sections) sections;
+  sides = map (λ section. section.side) sections;
+}
 
 -- each neighbour is a section, and together they are a tree
 abbrev pub trees_rules : List SectionEntry → List Rule

@@ -78,7 +78,8 @@ sizes_rules n sizes =
 
 -- at most 576 pairs, each of which is in order
 abbrev pub pairs_rules : ℕ → ℕ → Option ℕ → List (List Data) → List Rule
-pairs_rules n sizes beside pairs = at_section n (nat_le (length pairs) MAX_PAIRS) TooMany ∷ each (pair_rules n sizes beside) pairs
+pairs_rules n sizes beside pairs =
+    at_section n (nat_le (length pairs) MAX_PAIRS) TooMany ∷ each (pair_rules n sizes beside) pairs
 
 -- the sizes and the pairs of the n-th section
 abbrev pub own_rules : ℕ → Option ℕ → SectionEntry → List Rule
@@ -108,7 +109,8 @@ abbrev pub cells_of : ℕ → ℕ → List PairRow → List (Option PairData)
 cells_of sizes columns rows = map (pair_in columns rows) (range_with_len 0 (sizes * columns))
 
 abbrev pub own_pairs : Option ℕ → SectionEntry → List (Option PairData)
-own_pairs beside section = let sizes = length section.sizes in cells_of sizes (columns_of beside) (rows_of sizes beside section.pairs)
+own_pairs beside section =
+    let sizes = length section.sizes in cells_of sizes (columns_of beside) (rows_of sizes beside section.pairs)
 
 abbrev pub own_losses : Option ℕ → SectionEntry → OwnLosses
 own_losses beside section = record { sizes = section.sizes; pairs = own_pairs beside section }
@@ -118,4 +120,7 @@ pairs_of_section sections section = own_pairs (sizes_beside sections section) se
 
 -- of each section its sizes and its pairs
 abbrev pub losses_in : List SectionEntry → Losses
-losses_in sections = record { sizes = map (λ section. section.sizes) sections; pairs = map (pairs_of_section sections) sections }
+losses_in sections = record {
+  sizes = map (λ section. section.sizes) sections;
+  pairs = map (pairs_of_section sections) sections;
+}

@@ -15,14 +15,19 @@ abbrev pub section_keys : List (List ℕ)
 section_keys = codes "name" ∷ codes "side" ∷ codes "neighbour" ∷ codes "sizes" ∷ codes "pairs" ∷ []
 
 abbrev pub side_called : List ℕ → Option Side
-side_called word = if bytes_eq word (codes "supply") then Some Supply else if bytes_eq word (codes "return") then Some Return else None
+side_called word =
+    if bytes_eq word (codes "supply") then Some Supply
+    else if bytes_eq word (codes "return") then Some Return
+    else None
 
 abbrev pub side_at : Members → Option Side
 side_at table = option_and_then side_called (text_at (codes "side") table)
 
 -- the neighbour's name, none where the key is absent
 abbrev pub neighbour_at : Members → Option (Option (List ℕ))
-neighbour_at table = if has_key (codes "neighbour") table then option_map (λ name. Some name) (name_at (codes "neighbour") table) else Some None
+neighbour_at table =
+    if has_key (codes "neighbour") table then option_map (λ name. Some name) (name_at (codes "neighbour") table)
+    else Some None
 
 -- What the table of a section says: the neighbour by its name, none at the fan, and each pair as an array of values.
 pub record SectionEntry : Type 0 where

@@ -40,7 +40,8 @@ fn find_neighbour(
     place: u32,
 ) -> Result<Option<u32>, Fault>
     requires { length names.now ≤ MAX_SECTIONS }
-    ensures { result ≡ unless_refused (first_broken (known_rules names.now place neighbour.now)) (neighbour_among names.now neighbour.now) }
+    ensures { result ≡ unless_refused (first_broken (known_rules names.now place neighbour.now))
+        (neighbour_among names.now neighbour.now) }
 {
     let Some(name) = neighbour else {
         return Ok(None);

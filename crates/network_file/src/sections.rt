@@ -54,7 +54,8 @@ pub(crate) fn read_sections<'t>(
 fn read_each<'t>(alloc: Global, tables: &Tables<'t>) -> Result<Sections<'t>, ReadError>
     requires { length (tables_in tables.now) ≤ MAX_SECTIONS }
     ensures value { let sections = tables_in tables.now in
-        GivesAs sections_seen result (unless_refused (first_broken (each section_rules sections)) (map entry_of sections)) }
+        GivesAs sections_seen result
+        (unless_refused (first_broken (each section_rules sections)) (map entry_of sections)) }
     ensures names { IfOk result (λ sections. sections.names ≡ entry_names (sections_seen sections)) }
     ensures few { IfOk result (λ sections. length sections.tables.items ≤ MAX_SECTIONS) }
 {
@@ -82,7 +83,8 @@ fn read_each<'t>(alloc: Global, tables: &Tables<'t>) -> Result<Sections<'t>, Rea
 /// The table of a section, or the first of its keys that is refused.
 fn read_table(table: &Table, place: u32) -> Result<SectionTable<'_>, Fault>
     ensures { let section = table_view table.now in
-        ReadsAs entry_seen result (unless_refused (first_broken (section_table_rules place section)) (entry_of section)) }
+        ReadsAs entry_seen result
+        (unless_refused (first_broken (section_table_rules place section)) (entry_of section)) }
 {
     if !has_only(table, &["name", "side", "neighbour", "sizes", "pairs"]) {
         return Err(Fault::of_section(place, Reason::Key));

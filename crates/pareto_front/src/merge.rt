@@ -8,7 +8,7 @@ ghost use Rattle.pareto_front.specs.Sweep.{cost_of, last_cost, lesser_offer, sum
 use crate::parts::last_cost;
 use crate::point::Point;
 use crate::sweep::{Step, Sweep};
-use duct_units::NoMemory;
+use duct_units::{NoMemory, lesser};
 use std::alloc::Global;
 
 /// The points at which the cheaper of two fronts gets cheaper.
@@ -73,10 +73,10 @@ fn cheaper_point(points: &[Point], step: Step) -> Option<Point>
 fn lesser_cost(step: Step) -> Option<u64>
     ensures { result ≡ lesser_offer step }
 {
-    match (step.left, step.right) {
-        (Some(p), Some(q)) => Some(p.cost.min(q.cost)),
-        (one, None) | (None, one) => one.map(|point| point.cost),
-    }
+    lesser(
+        step.left.map(|point| point.cost),
+        step.right.map(|point| point.cost),
+    )
 }
 
 /// What both fronts offer together at the step, where both offer a point.

@@ -21,7 +21,8 @@ names_of sizes = map (λ size. size.name) sizes
 -- the numbers of those sizes of list j that are numbered from i on
 abbrev pub numbers_from : ℕ → ℕ → List Size → List ℕ
 numbers_from j i [] = []
-numbers_from j i (size ∷ sizes) = if size.list == j then i ∷ numbers_from j (i + 1) sizes else numbers_from j (i + 1) sizes
+numbers_from j i (size ∷ sizes) =
+    if size.list == j then i ∷ numbers_from j (i + 1) sizes else numbers_from j (i + 1) sizes
 
 abbrev pub numbers_of : ℕ → List Size → List ℕ
 numbers_of j sizes = numbers_from j 0 sizes
@@ -37,7 +38,15 @@ abbrev pub lists_with : List ℕ → List (List ℕ) → List (List ℕ)
 lists_with name lists = if is_among name lists then lists else lists ++ name ∷ []
 
 abbrev pub size_in_list : ℕ → SizeRow → Size
-size_in_list j row = record { name = row.name; list = j; area = row.area; height = row.height; metre = row.metre; join = row.join; step = row.step }
+size_in_list j row = record {
+  name = row.name;
+  list = j;
+  area = row.area;
+  height = row.height;
+  metre = row.metre;
+  join = row.join;
+  step = row.step;
+}
 
 abbrev pub with_size : Catalogue → SizeRow → Catalogue
 with_size catalogue row = record {

@@ -10,6 +10,7 @@ use duct_units::Name;
 /// One size of a catalogue.
 #[derive(Clone, Copy)]
 pub struct Size {
+    /// Its name, which no other size of the catalogue has.
     pub name: Name,
     /// The number of its list, from 0.
     pub list: u32,
@@ -25,7 +26,7 @@ pub struct Size {
     pub step: u64,
 }
 
-/// What a row of a sizes file says.
+/// What a row of a sizes file says: a size as in `Size`, and its list by name.
 #[derive(Clone, Copy)]
 pub struct SizeRow {
     pub list: Name,

@@ -70,7 +70,8 @@ pub fn items_at<'t>(table: &'t Table, key: &str) -> Option<&'t [Value]>
 }
 
 fn array_at<'t>(table: &'t Table, key: &str) -> Option<&'t Array>
-    ensures { option_map (λ items. array_view items.now) result ≡ option_and_then as_array (get_member key.now (table_view table.now)) }
+    ensures { option_map (λ items. array_view items.now) result
+        ≡ option_and_then as_array (get_member key.now (table_view table.now)) }
 {
     match table.get(key) {
         Some(value) => value.as_array(),
@@ -86,7 +87,8 @@ pub fn has_only(table: &Table, keys: &[&str]) -> bool
 }
 
 fn are_listed(table: &Table, keys: &[&str]) -> bool
-    ensures { result ≡ list_all (λ key. list_any (λ listed. bytes_eq (string_bytes key) listed.now) keys.now) (keys_of table.now.entries) }
+    ensures { result ≡ list_all (λ key. list_any (λ listed. bytes_eq (string_bytes key) listed.now) keys.now)
+        (keys_of table.now.entries) }
 {
     table.keys().all(|key| is_listed(key.as_str(), keys))
 }
