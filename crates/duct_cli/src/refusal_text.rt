@@ -3,10 +3,10 @@ ghost use Rattle.std.specs.Prelude.{◌≡◌, [], ◌∷◌, codes, IfOk};
 ghost use Rattle.duct_definitions.specs.DesignText.{line};
 ghost use Rattle.duct_cli.specs.RefusalText.{file_word, part_word, reason_word, refusal_line, words_line, fault_line};
 
-use crate::text::{Text, number};
 use crate::words::FileKind;
 use duct_units::{Fault, List, NoMemory, Part, Reason};
 use std::alloc::Global;
+use text_lines::{Text, number};
 
 /// The line of refused words.
 #[tactic(auto, unfolding(duct_definitions::specs::DesignText::line))]

@@ -2,6 +2,8 @@
 ghost use Rattle.std.specs.Prelude.{◌≡◌, ◌≢◌, ◌<◌, ◌≤◌, ◌++◌, [], ◌∷◌, length, map, string_bytes, IfOk, MatchResult};
 ghost use Rattle.duct_units.specs.declared.fault.Reason.TheVariants.{TooLong};
 ghost use Rattle.duct_units.specs.Rules.{file_fault};
+ghost use Rattle.duct_definitions.specs.Designs.{Meets};
+ghost use Rattle.duct_definitions.specs.DesignText.{text, listed};
 ghost use Rattle.duct_ports.specs.Faults.{Rose};
 ghost use Rattle.duct_cli.specs.Words.{pick};
 ghost use Rattle.duct_cli.specs.Answer.{AnswersDesign, AnswersNetwork};
@@ -9,16 +11,16 @@ ghost use Rattle.duct_cli.specs.RefusalText.{refusal_line};
 ghost use Rattle.duct_cli.specs.Reply.{IsReply, IsCommandReply};
 ghost use Rattle.duct_cli.specs.Run.{AsksFor};
 
-use crate::best::best_design;
-use crate::listing::listed;
-use crate::printing::{design_text, none_text};
 use crate::refusal_text::refusal_text;
 use crate::words::{Command, FileKind};
+use damper_balance::balance;
+use design_text::{print, print_none};
 use duct_ports::{Files, TakeError, read_all};
 use duct_units::{Fault, List, NoMemory, ReadError, Reason};
-use net_model::Network;
+use net_model::{Design, Network};
 use network_file::read_network;
 use std::alloc::Global;
+use t_method::best_design;
 
 /// A status and a text.
 #[derive(Drop)]
@@ -112,11 +114,20 @@ fn answer_design(alloc: Global, net: &Network) -> Result<Answer, NoMemory>
     match best_design(alloc, net)? {
         Some(best) => Ok(Answer {
             status: 0,
-            text: design_text(alloc, &listed(alloc, net, &best)?)?,
+            text: design_text(alloc, net, &best)?,
         }),
         None => Ok(Answer {
             status: 3,
-            text: none_text(alloc, &net.name())?,
+            text: print_none(alloc, &net.name())?,
         }),
     }
+}
+
+/// The text of a design, with its heads and dampers.
+fn design_text(alloc: Global, net: &Network, d: &Design) -> Result<List<u8>, NoMemory>
+    requires { Meets net.now d.now }
+    ensures { IfOk result (λ answer. answer ≡ text (listed net.now d.now)) }
+{
+    let dampers = balance(alloc, net, d)?;
+    print(alloc, net, d, &dampers)
 }

@@ -5,210 +5,140 @@ use crate::run::run;
 use duct_ports::{HeldFile, MemoryFiles, MemorySink};
 use duct_units::List;
 use std::alloc::Global;
-use std::process::Abort;
 use std::test::Fail;
 
+/// What the file `one.toml` holds.
 const NETWORK: &str =
     "format = 1\nname = \"one\"\n[[fan]]\nname = \"f1\"\npressure = 60\ncost = 100\n[[section]]\nname = \"a\"\nside = \"supply\"\nsizes = [\"k1\"]\npairs = [[1, 0, 60, 500]]\n";
 
+/// The design of that network, where a bar stands for a line feed.
 const DESIGN: &str =
-    "design 1\nproject one\nfan f1 60 100\nsupply 60 60\nreturn 0 0\nsection a k1 60 500 0\ncost 600\nend\n";
+    "design 1|project one|fan f1 60 100|supply 60 60|return 0 0|section a k1 60 500 0|cost 600|end|";
 
-const NONE: &str = "design 1\nproject one\nnone\nend\n";
+/// A case a line: what differs from `pick one.toml` over ample files and an ample sink, an arrow, the status and what
+/// was written. A bar stands for a line feed, and DESIGN for the design.
+///
+/// `fails n`: call n of the files fails; call 1 starts the file, call 2 reads its bytes, call 3 finds its end.
+/// `length n`: the file is cut, or filled up with line feeds, to so many bytes. `byte n`: it holds this byte alone.
+/// `room n`: the sink takes so many bytes, one at a time. `write n`: it takes four at a time, and call n fails.
+/// `words`: the words are these, each behind a comma.
+const CASES: &str = "
+nothing -> 0 DESIGN
+fails 1 -> 4 fault read|
+fails 2 -> 4 fault read|
+fails 3 -> 4 fault read|
+fails 4 -> 0 DESIGN
+byte 255 -> 1 refused network file 0 text|
+length 20 -> 1 refused network file 0 text|
+length 4194304 -> 0 DESIGN
+length 4194305 -> 1 refused network file 0 too-long|
+write 3 -> 5 design 1
+room 94 -> 0 DESIGN
+words -> 2 refused words|
+words,pick -> 2 refused words|
+words,pick, -> 2 refused words|
+words,pick,-n -> 2 refused words|
+words,pick,one.toml,two.toml -> 2 refused words|
+words,Pick,one.toml -> 2 refused words|
+words,--help -> 2 refused words|
+words,design,one.toml -> 2 refused words|
+room 0 words,pick -> 5
+words,pick,two.toml -> 4 fault read|
+";
 
-fn words_of(alloc: Global, words: &[&str]) -> Result<Vec<String>, Fail> {
-    let mut all = Vec::new(alloc);
-    for word in words {
-        all.push(String::from_str(alloc, word)?)?;
+#[test]
+fn each_run_has_its_status_and_its_text(rt: HostRuntime) -> Result<(), Fail> {
+    for line in CASES.lines() {
+        if let Some((case, wanted)) = line.split_once(" -> ") {
+            let wanted = wanted.replace(rt.alloc(), "DESIGN", DESIGN)?;
+            let found = outcome(rt.alloc(), case)?;
+            assert_eq!(rt; found.as_str().trim_end(), wanted.as_str(), "of {case}");
+        }
     }
-    Ok(all)
+    Ok(())
 }
 
-fn numbers(alloc: Global, numbers: &[u32]) -> Result<List<u32>, Fail> {
-    Ok(List::from_vec(numbers.to_vec(alloc)?))
+#[test]
+fn a_sink_that_takes_a_byte_at_a_time_has_a_front_of_the_text(rt: HostRuntime) -> Result<(), Fail> {
+    let mut front = String::from_str(rt.alloc(), "5 ")?;
+    for (room, next) in DESIGN.chars().enumerate() {
+        let case = format!(in rt.alloc(); "room {room}")?;
+        let found = outcome(rt.alloc(), case.as_str())?;
+        assert_eq!(rt; found.as_str(), front.as_str(), "at {case}");
+        front.push(next)?;
+    }
+    Ok(())
 }
 
-/// One file, `one.toml`; the calls of these numbers fail.
-fn one_file<'w>(alloc: Global, bytes: Vec<u8>, fails: &[u32]) -> Result<MemoryFiles<'w>, Fail>
+/// The status of a case's run, and what was written.
+fn outcome(alloc: Global, case: &str) -> Result<String, Fail> {
+    let words = words_of(alloc, case)?;
+    let mut files = files_of(alloc, case)?;
+    let mut out = sink_of(alloc, case)?;
+    let status = run(alloc, words.as_slice(), &mut files, &mut out);
+    spelled(alloc, status, out.bytes())
+}
+
+fn spelled(alloc: Global, status: u8, written: &[u8]) -> Result<String, Fail> {
+    let text = str::from_utf8(written)?.replace(alloc, "\n", "|")?;
+    Ok(format!(in alloc; "{status} {text}")?)
+}
+
+/// The number behind a word of the case.
+fn number(case: &str, word: &str) -> Option<u32> {
+    case.split_once(word)?
+        .1
+        .split_whitespace()
+        .next()?
+        .parse()
+        .ok()
+}
+
+fn words_of(alloc: Global, case: &str) -> Result<Vec<String>, Fail> {
+    let spelled = case
+        .split_once("words")
+        .map_or(",pick,one.toml", |parts| parts.1);
+    let mut words = Vec::new(alloc);
+    for word in spelled.split(',').skip(1) {
+        words.push(String::from_str(alloc, word)?)?;
+    }
+    Ok(words)
+}
+
+fn files_of<'w>(alloc: Global, case: &str) -> Result<MemoryFiles<'w>, Fail>
     ensures { IfOk result (λ files. files.asked ≡ []) }
 {
     let file = HeldFile {
         name: List::from_vec(b"one.toml".to_vec(alloc)?),
-        bytes: List::from_vec(bytes),
+        bytes: List::from_vec(bytes_of(alloc, case)?),
     };
-    Ok(MemoryFiles::new(
-        List::from_vec(vec![in alloc; file]?),
-        numbers(alloc, fails)?,
-    ))
+    let files = List::from_vec(vec![in alloc; file]?);
+    Ok(MemoryFiles::new(files, failing(alloc, case, "fails ")?))
 }
 
-/// Runs `pick one.toml` on these bytes and compares the status and the text.
-fn expect_pick<R: Abort>(
-    rt: &R,
-    alloc: Global,
-    bytes: Vec<u8>,
-    fails: &[u32],
-    status: u8,
-    text: &str,
-) -> Result<(), Fail> {
-    let words = words_of(alloc, &["pick", "one.toml"])?;
-    let mut files = one_file(alloc, bytes, fails)?;
-    let mut out = MemorySink::new(alloc, 1000, 1000, numbers(alloc, &[])?)?;
-    let ended = run(alloc, words.as_slice(), &mut files, &mut out);
-    assert_eq!(rt; ended, status, "the status of {text}");
-    assert_eq!(rt; out.bytes(), text.as_bytes(), "the text of {text}");
-    Ok(())
-}
-
-fn text_of(alloc: Global, text: &str) -> Result<Vec<u8>, Fail> {
-    Ok(text.as_bytes().to_vec(alloc)?)
-}
-
-#[test]
-fn each_failing_call_of_the_files_is_a_read_fault(rt: HostRuntime) -> Result<(), Fail> {
-    // Call 1 starts the file, call 2 reads its bytes, call 3 finds its end.
-    for call in [1, 2, 3] {
-        expect_pick(
-            &rt,
-            rt.alloc(),
-            text_of(rt.alloc(), NETWORK)?,
-            &[call],
-            4,
-            "fault read\n",
-        )?;
+fn bytes_of(alloc: Global, case: &str) -> Result<Vec<u8>, Fail> {
+    if let Some(byte) = number(case, "byte ") {
+        return Ok(vec![in alloc; byte.to_le_bytes()[0]]?);
     }
-    expect_pick(
-        &rt,
-        rt.alloc(),
-        text_of(rt.alloc(), NETWORK)?,
-        &[4],
-        0,
-        DESIGN,
-    )
-}
-
-#[test]
-fn the_first_fault_of_the_bytes_is_answered(rt: HostRuntime) -> Result<(), Fail> {
-    let alloc = rt.alloc();
-    let weak = text_of(
-        alloc,
-        NETWORK
-            .replace(alloc, "pressure = 60", "pressure = 59")?
-            .as_str(),
-    )?;
-    expect_pick(&rt, rt.alloc(), weak, &[], 3, NONE)?;
-    let no_pair = text_of(
-        alloc,
-        NETWORK.replace(alloc, "[1, 0, 60, 500]", "")?.as_str(),
-    )?;
-    expect_pick(&rt, rt.alloc(), no_pair, &[], 3, NONE)?;
-    let back = text_of(alloc, NETWORK.replace(alloc, "supply", "return")?.as_str())?;
-    expect_pick(
-        &rt,
-        rt.alloc(),
-        back,
-        &[],
-        1,
-        "refused network file 0 no-supply\n",
-    )?;
-    let cut = text_of(alloc, &NETWORK[..20])?;
-    expect_pick(
-        &rt,
-        rt.alloc(),
-        cut,
-        &[],
-        1,
-        "refused network file 0 text\n",
-    )?;
-    let no_text = vec![in alloc; 255u8]?;
-    expect_pick(
-        &rt,
-        rt.alloc(),
-        no_text,
-        &[],
-        1,
-        "refused network file 0 text\n",
-    )
-}
-
-#[test]
-fn a_file_may_hold_4194304_bytes_and_no_more(rt: HostRuntime) -> Result<(), Fail> {
-    let mut bytes = text_of(rt.alloc(), NETWORK)?;
-    for _ in bytes.len()..4_194_304 {
-        bytes.push(b'\n')?;
+    let mut bytes = NETWORK.as_bytes().to_vec(alloc)?;
+    if let Some(length) = number(case, "length ") {
+        bytes.resize(length as usize, b'\n')?;
     }
-    expect_pick(&rt, rt.alloc(), bytes.clone()?, &[], 0, DESIGN)?;
-    bytes.push(b'\n')?;
-    expect_pick(
-        &rt,
-        rt.alloc(),
-        bytes,
-        &[],
-        1,
-        "refused network file 0 too-long\n",
-    )
+    Ok(bytes)
 }
 
-#[test]
-fn a_sink_that_takes_a_byte_at_a_time_gets_a_front_of_the_text(
-    rt: HostRuntime,
-) -> Result<(), Fail> {
-    let alloc = rt.alloc();
-    let words = words_of(alloc, &["pick", "one.toml"])?;
-    // The text has 94 bytes.
-    for room in 0..95usize {
-        let mut files = one_file(alloc, text_of(alloc, NETWORK)?, &[])?;
-        let mut out = MemorySink::new(alloc, room as u64, 1, numbers(alloc, &[])?)?;
-        let ended = run(alloc, words.as_slice(), &mut files, &mut out);
-        assert_eq!(rt; ended, if room < 94 { 5 } else { 0 }, "at a room of {room}");
-        assert_eq!(rt;
-            out.bytes(),
-            &DESIGN.as_bytes()[..room.min(DESIGN.len())],
-            "at a room of {room}"
-        );
+fn sink_of(alloc: Global, case: &str) -> Result<MemorySink, Fail> {
+    let room = number(case, "room ");
+    let most = if room.is_some() { 1 } else { 4 };
+    let fails = failing(alloc, case, "write ")?;
+    Ok(MemorySink::new(alloc, u64::from(room.unwrap_or(1000)), most, fails)?)
+}
+
+/// The numbers of the calls that fail, one or none.
+fn failing(alloc: Global, case: &str, word: &str) -> Result<List<u32>, Fail> {
+    let mut calls = Vec::new(alloc);
+    if let Some(call) = number(case, word) {
+        calls.push(call)?;
     }
-    Ok(())
-}
-
-#[test]
-fn a_write_that_fails_leaves_what_was_taken_before(rt: HostRuntime) -> Result<(), Fail> {
-    let alloc = rt.alloc();
-    let words = words_of(alloc, &["pick", "one.toml"])?;
-    let mut files = one_file(alloc, text_of(alloc, NETWORK)?, &[])?;
-    let mut out = MemorySink::new(alloc, 1000, 4, numbers(alloc, &[3])?)?;
-    assert_eq!(rt; run(alloc, words.as_slice(), &mut files, &mut out), 5);
-    assert_eq!(rt; out.bytes(), b"design 1".as_slice());
-    Ok(())
-}
-
-#[test]
-fn refused_words_name_no_file(rt: HostRuntime) -> Result<(), Fail> {
-    let alloc = rt.alloc();
-    let refused: [&[&str]; 8] = [
-        &[],
-        &["pick"],
-        &["pick", ""],
-        &["pick", "-n"],
-        &["pick", "one.toml", "two.toml"],
-        &["Pick", "one.toml"],
-        &["--help"],
-        &["design", "one.toml"],
-    ];
-    for words in refused {
-        let words = words_of(alloc, words)?;
-        let mut files = one_file(alloc, text_of(alloc, NETWORK)?, &[])?;
-        let mut out = MemorySink::new(alloc, 1000, 1000, numbers(alloc, &[])?)?;
-        assert_eq!(rt;
-            run(alloc, words.as_slice(), &mut files, &mut out),
-            2,
-            "of {words:?}"
-        );
-        assert_eq!(rt; out.bytes(), b"refused words\n".as_slice(), "of {words:?}");
-    }
-    let words = words_of(alloc, &["pick"])?;
-    let mut files = one_file(alloc, text_of(alloc, NETWORK)?, &[])?;
-    let mut full = MemorySink::new(alloc, 0, 1, numbers(alloc, &[])?)?;
-    assert_eq!(rt; run(alloc, words.as_slice(), &mut files, &mut full), 5);
-    assert_eq!(rt; full.bytes().len(), 0);
-    Ok(())
+    Ok(List::from_vec(calls))
 }

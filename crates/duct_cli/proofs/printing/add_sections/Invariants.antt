@@ -1,9 +1,0 @@
-use Rattle.std.proofs.Common.{◌≡◌, ◌++◌, drop}
-use Rattle.std.specs.List.{flat_map}
-use Rattle.duct_definitions.specs.DesignText.{section_line}
-use Rattle.duct_cli.proofs.printing.add_sections.Given as goal
-
--- the text so far and the lines of the sections that are left are the whole text
-abbrev pub invariant-loop-section : goal.invariant-loop-section
-invariant-loop-section l =
-    l.fn.text ++ flat_map section_line l.sections ≡ l.text ++ flat_map section_line (drop l.section-index l.sections)

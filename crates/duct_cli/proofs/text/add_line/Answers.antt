@@ -1,8 +1,0 @@
-use Rattle.std.proofs.Common.{arith}
-use Rattle.std.proofs.lemmas.Grind.{common_steps}
-use Rattle.duct_definitions.specs.DesignText.{line}
-use Rattle.duct_cli.proofs.text.add_line.Goals as goal
-
-pub loop-word-init : goal.loop-word-init
-unfolding line
-loop-word-init c = grind (arith, common_steps)
