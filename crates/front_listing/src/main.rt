@@ -23,10 +23,10 @@ fn status<R: std::rt::Files + Print + std::rt::Env + AllocGlobal>(rt: &R) -> u8 
     let Ok(args) = env::args(rt) else {
         return 1;
     };
-    for word in args.skip(1) {
-        return printed(rt, word.as_str());
+    match args.skip(1).next() {
+        Some(word) => printed(rt, word.as_str()),
+        None => 1,
     }
-    1
 }
 
 /// 0 where the fronts of the named file were printed, else 1.
@@ -41,7 +41,7 @@ fn printed<R: std::rt::Files + Print + AllocGlobal>(rt: &R, name: &str) -> u8 {
     let Ok(text) = listing_of(rt.alloc(), &net) else {
         return 1;
     };
-    match write_all(&mut StdSink::new(rt), text.as_bytes()) {
+    match write_all(&mut StdSink::new(rt), text.as_slice()) {
         Ok(()) => 0,
         Err(_) => 1,
     }
