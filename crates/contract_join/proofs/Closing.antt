@@ -22,7 +22,9 @@ use Rattle.least_laws.proofs.Leasts.{least_in-is, least_in-step}
 use Rattle.least_laws.proofs.SumOf.{least_below-next}
 use Rattle.contract_join.specs.SectionFronts.{NeedsWithin, CostsWithin, front_of, most_beyond, AreExact}
 use Rattle.contract_join.specs.Join.{AreSums}
-use Rattle.contract_join.specs.Scratch.{laid, least_laid, IsClear}
+use Rattle.contract_join.specs.declared.scratch.Scratch.{Scratch}
+use Rattle.contract_join.specs.declared.scratch.Scratch.TheVariants.{Points, Prices}
+use Rattle.contract_join.specs.Scratch.{laid, least_among, least_in_scratch, IsClear}
 use Rattle.contract_join.proofs.Lessers.{lesser-none}
 use Rattle.contract_join.proofs.Fronts.{All-front_of, front_of-get_or, times-most_beyond, cap-le}
 
@@ -36,8 +38,9 @@ least_below-clear : (h : ℕ → Option ℕ) → ((k : ℕ) → h k ≡ None) �
 least_below-clear h none zero = refl
 least_below-clear h none (suc n) = ap (λ o. lesser o (h n)) (least_below-clear h none n) ∙ none n
 
-pub clear-least : (prices : List (Option ℕ)) → IsClear prices → (budget : ℕ) → least_laid prices budget ≡ None
-clear-least prices clear budget = least_below-clear (laid prices) clear (budget + 1)
+pub clear-least : (scratch : Scratch) → IsClear scratch → (budget : ℕ) → least_in_scratch scratch budget ≡ None
+clear-least (Points points) clear budget = ap (λ l. least_among l budget) clear
+clear-least (Prices prices) absent budget = least_below-clear (laid prices.items) absent (budget + 1)
 
 pub length-filter-le : (test : ℕ → Bool) (xs : List ℕ) → length (filter test xs) ≤ length xs
 length-filter-le test [] = omega arith

@@ -20,7 +20,7 @@ abbrev pub moved : Pair → List Point → List Point
 moved pair front = map (moved_by pair.loss pair.price) front
 
 -- a later point is the lesser of two costs
-later_is_lesser : (x y : Option ℕ) → ((c d : ℕ) → x ≡ Some c → y ≡ Some d → d < c) → option_or y x ≡ lesser x y
+pub later_is_lesser : (x y : Option ℕ) → ((c d : ℕ) → x ≡ Some c → y ≡ Some d → d < c) → option_or y x ≡ lesser x y
 later_is_lesser None None falls = refl
 later_is_lesser None (Some d) falls = refl
 later_is_lesser (Some c) None falls = refl

@@ -1,9 +1,10 @@
 pub mod Lessers
 pub mod Laid
-pub mod Touched
-pub mod Clearing
-pub mod Sweeping
 pub mod LaidFronts
+pub mod Among
+pub mod Sweeping
+pub mod InOrder
+pub mod Scanning
 pub mod Fronts
 pub mod Closing
 pub mod Adding

@@ -1,13 +1,12 @@
 //! The fronts of a section, from the sums of its children's fronts.
-ghost use Rattle.std.specs.Prelude.{◌≡◌, ℕ, ◌+◌, ◌<◌, ◌≤◌, IfOk, length};
+ghost use Rattle.std.specs.Prelude.{◌≡◌, ℕ, ◌<◌, ◌≤◌, IfOk, length};
 ghost use Rattle.duct_definitions.specs.Tree.{children};
 ghost use Rattle.duct_definitions.specs.Network.{columns, cap};
 ghost use Rattle.least_laws.specs.LeastIn.{least_in};
 ghost use Rattle.contract_join.specs.SectionFronts.{AreExact};
 ghost use Rattle.contract_join.specs.Join.{AreSums};
-ghost use Rattle.contract_join.specs.Scratch.{least_laid, IsClear};
+ghost use Rattle.contract_join.specs.Scratch.{least_in_scratch, IsClear, IsUpTo};
 
-use crate::laying::lay_front;
 use crate::scratch::Scratch;
 use duct_units::{List, NoMemory};
 use net_model::Network;
@@ -25,14 +24,23 @@ pub(crate) fn fronts_beside(
     requires { AreSums net.now s (length (children net.now.tree s)) sums.now }
     ensures { IfOk result (AreExact net.now s) }
 {
-    let mut scratch = Scratch::start(alloc, net.cap())?;
+    let cap = net.cap();
+    let mut scratch = Scratch::start(alloc, cap, count_of_points(sums))?;
     let columns = net.columns(s);
     let mut fronts = Vec::with_capacity(alloc, columns as usize)?;
     for g in 0..columns {
         lay_sizes(&mut scratch, net, s, g, sums)?;
-        fronts.push(scratch.front(alloc)?)?;
+        fronts.push(scratch.front(alloc, cap)?)?;
     }
     Ok(List::from_vec(fronts))
+}
+
+/// How many points the fronts have together.
+fn count_of_points(fronts: &[Front]) -> usize {
+    fronts.iter().fold(
+        0,
+        |sum: usize, front| sum.saturating_add(front.points().len()),
+    )
 }
 
 /// Lays the points of all sizes of section `s` that can be joined to size `g` of its neighbour.
@@ -44,16 +52,17 @@ fn lay_sizes(
     sums: &[Front],
 ) -> Result<(), NoMemory>
     requires clear { IsClear scratch.old }
-    requires wide { length scratch.old ≡ cap net.now + 1 }
+    requires up_to { IsUpTo (cap net.now) scratch.old }
     requires beside { g < columns net.now s }
     requires sums { AreSums net.now s (length (children net.now.tree s)) sums.now }
     ensures least { IfOk result (λ _. (budget : ℕ) → budget ≤ cap net.now →
-        least_laid scratch.new budget ≡ least_in net.now s g budget) }
-    ensures wide { length scratch.new ≡ length scratch.old }
+        least_in_scratch scratch.new budget ≡ least_in net.now s g budget) }
+    ensures up_to { IfOk result (λ _. IsUpTo (cap net.now) scratch.new) }
 {
+    let cap = net.cap();
     for k in 0..net.size_count(s) {
         if let Some(pair) = net.pair(s, k, g) {
-            lay_front(scratch, &sums[k as usize], pair)?;
+            scratch.lay_front(cap, &sums[k as usize], pair)?;
         }
     }
     Ok(())

@@ -6,8 +6,9 @@
 
 mod close;
 mod contract;
+mod few_points;
 mod join;
-mod laying;
+mod many_points;
 mod scratch;
 mod section_fronts;
 mod side;

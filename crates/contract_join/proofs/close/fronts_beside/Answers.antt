@@ -1,8 +1,8 @@
-use Rattle.std.proofs.Common.{◌≡◌, ◌+◌, ◌<◌, ◌≤◌, arith, sym, ◌∙◌, subst, List, length}
-use Rattle.std.proofs.lemmas.List.Elements.{All-weaker}
+use Rattle.std.proofs.Common.{◌≡◌, ◌+◌, arith, sym, ◌∙◌, subst, List}
 use Rattle.pareto_front.specs.declared.point.Point.{Point}
 use Rattle.duct_definitions.specs.Network.{columns, cap}
-use Rattle.contract_join.specs.SectionFronts.{AreExact}
+use Rattle.contract_join.specs.SectionFronts.{AreExact, NeedsWithin}
+use Rattle.contract_join.specs.Scratch.{IsUpTo}
 use Rattle.contract_join.proofs.Closing.{AreBeside, AreBeside-push, AreExact-beside}
 use Rattle.contract_join.proofs.Fronts.{cap-le}
 use Rattle.contract_join.proofs.close.fronts_beside.Goals as goal
@@ -10,24 +10,20 @@ use Rattle.contract_join.proofs.close.fronts_beside.Goals as goal
 pub start-requires : goal.start-requires
 start-requires c =
     let most = cap-le c.args.net.now c.requires.network in
-    let is = c.cap.ensures in
+    let is = c.cap-cap.ensures in
     omega arith
 
 pub loop-g-preserved : goal.loop-g-preserved
 loop-g-preserved c =
     let net = c.args.net.now in
     let front : List Point = c.in_ok-front.field-0 in
-    let wide = c.loop-g.invariant.1 in
-    let laid = c.lay_sizes.ensures.wide in
-    let cleared = c.front.ensures.wide in
-    let same : length c.front.new.self ≡ cap c.args.net.now + 1 = omega arith in (
+    let same : c.cap-cap.result ≡ cap c.args.net.now = c.cap-cap.ensures in (
       c.in_ok-front.ensures.clear,
-      same,
+      subst (λ n. IsUpTo n c.front.new.self) same c.in_ok-front.ensures.up_to,
       subst (λ (l : List (List Point)). AreBeside net c.args.s l (c.loop-g.g + 1)) (sym {A = List (List Point)} c.in_ok-push.ensures.items)
           (AreBeside-push net c.args.s c.loop-g.fronts.items c.loop-g.g front c.loop-g.invariant.2 c.in_ok-front.ensures.rising
-          (λ budget in_cap. c.in_ok-front.ensures.value budget ∙ c.in_ok-lay_sizes.ensures.least budget in_cap)
-          (All-weaker (λ (point : Point). point.need < length c.lay_sizes.new.scratch) (λ point. point.need ≤ cap net)
-          (λ point low. omega arith) front c.in_ok-front.ensures.needs)),
+          (λ budget in_cap. c.in_ok-front.ensures.value budget (omega arith) ∙ c.in_ok-lay_sizes.ensures.least budget in_cap)
+          (subst (λ n. NeedsWithin n front) same c.in_ok-front.ensures.needs)),
     )
 
 pub returns : goal.returns

@@ -1,4 +1,4 @@
-use Rattle.std.proofs.Common.{◌≡◌, ℕ, ◌+◌, ◌<◌, ◌≤◌, ◌^◌, arith, ap, sym, ◌∙◌, subst, refl, List, Option, Some, length}
+use Rattle.std.proofs.Common.{◌≡◌, ℕ, ◌+◌, ◌<◌, ◌≤◌, ◌^◌, arith, ap, sym, ◌∙◌, subst, List, Option, Some}
 use Rattle.std.specs.Prelude.{All}
 use Rattle.pareto_front.specs.declared.point.Point.{Point}
 use Rattle.pareto_front.specs.Front.{cheapest}
@@ -8,14 +8,14 @@ use Rattle.least_laws.specs.Prices.{least_below, with_pair}
 use Rattle.least_laws.specs.LeastIn.{least_in, least_with}
 use Rattle.contract_join.specs.declared.scratch.Scratch.{Scratch}
 use Rattle.contract_join.specs.SectionFronts.{front_of}
-use Rattle.contract_join.specs.Scratch.{least_laid}
+use Rattle.contract_join.specs.Scratch.{least_in_scratch, IsUpTo}
 use Rattle.contract_join.proofs.Closing.{clear-least, sum_needs, sum_costs, least-next, least-none, least-all}
 use Rattle.contract_join.proofs.Fronts.{front_of-read}
 use Rattle.contract_join.proofs.close.lay_sizes.Goals as goal
 use Rattle.contract_join.proofs.close.lay_sizes.Goals.{in-Some+in_ok-lay_front, in_default}
 
 pub loop-k-init : goal.loop-k-init
-loop-k-init c = (refl, λ budget in_cap. clear-least c.args.scratch.now c.requires.clear budget)
+loop-k-init c = (c.requires.up_to, λ budget in_cap. clear-least c.args.scratch.now c.requires.clear budget)
 
 pub lay_front-requires-clause-needs : goal.lay_front-requires-clause-needs
 lay_front-requires-clause-needs c =
@@ -48,22 +48,20 @@ loop-k-preserved c =
     let count = sums.count in
     let end = c.size_count-k-end.ensures in
     let test = c.loop-k-test.true in
-    let wide = c.requires.wide in
     let so_far = c.loop-k.invariant.0 in
     let less : c.loop-k.k < size_count c.args.net.now c.args.s = omega arith in
     let so_many : ℕ → Option ℕ = λ budget. least_below (least_with net (least_in net) c.args.s c.args.g budget) c.loop-k.k in
-    let Kept : Scratch → Type 0 = λ (x : Scratch). (length x ≡ length c.args.scratch.now) × ((budget : ℕ) → budget ≤ cap net
-    → least_laid x budget ≡ least_below (least_with net (least_in net) c.args.s c.args.g budget) (c.loop-k.k + 1)) in
+    let Kept : Scratch → Type 0 = λ (x : Scratch). IsUpTo (cap net) x × ((budget : ℕ) → budget ≤ cap net
+    → least_in_scratch x budget ≡ least_below (least_with net (least_in net) c.args.s c.args.g budget) (c.loop-k.k + 1)) in
     elim c.match-pair.branch [
       | in-Some+in_ok-lay_front w ↦
           (let front : List Point = w.index-sums-k.result in
           let pair = w.in-Some.pair in
           let is : front_of c.args.sums.now c.loop-k.k ≡ front = front_of-read c.args.sums.now c.loop-k.k front (omega arith) w.index-sums-k.is in
-          let now_wide = w.lay_front.ensures.wide in
           subst Kept (sym w.scratch-is) (
-            (let same : length w.lay_front.new.scratch ≡ length c.args.scratch.now = omega arith in same),
+            subst (λ n. IsUpTo n w.lay_front.new.self) c.cap-cap.ensures w.in_ok-lay_front.ensures.up_to,
             λ budget in_cap.
-                w.in_ok-lay_front.ensures.least budget (omega arith)
+                w.in_ok-lay_front.ensures.least budget (omega (arith, c.cap-cap.ensures))
                 ∙ ap (λ o. lesser o (with_pair (Some pair) budget (cheapest front))) (c.loop-k.invariant.1 budget in_cap)
                 ∙ ap (λ (f : List Point). lesser (so_many budget) (with_pair (Some pair) budget (cheapest f))) (sym is)
                 ∙ least-next net sums.network c.args.s c.args.sums.now sums c.loop-k.k less c.args.g budget pair (sym w.in-Some.ensures.value) in_cap,

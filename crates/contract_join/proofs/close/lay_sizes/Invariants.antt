@@ -1,12 +1,12 @@
-use Rattle.std.proofs.Common.{◌≡◌, ℕ, ◌≤◌, length}
+use Rattle.std.proofs.Common.{◌≡◌, ℕ, ◌≤◌}
 use Rattle.duct_definitions.specs.Network.{cap}
 use Rattle.least_laws.specs.Prices.{least_below}
 use Rattle.least_laws.specs.LeastIn.{least_in, least_with}
-use Rattle.contract_join.specs.Scratch.{least_laid}
+use Rattle.contract_join.specs.Scratch.{least_in_scratch, IsUpTo}
 use Rattle.contract_join.proofs.close.lay_sizes.Given as goal
 
 abbrev pub invariant-loop-k : goal.invariant-loop-k
 invariant-loop-k l =
-    (length l.scratch ≡ length l.fn.scratch)
+    IsUpTo (cap l.net) l.scratch
     × ((budget : ℕ) → budget ≤ cap l.net
-    → least_laid l.scratch budget ≡ least_below (least_with l.net (least_in l.net) l.s l.g budget) l.k)
+    → least_in_scratch l.scratch budget ≡ least_below (least_with l.net (least_in l.net) l.s l.g budget) l.k)
