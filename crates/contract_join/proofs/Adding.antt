@@ -1,17 +1,13 @@
--- The sums of a section's children: of none, and of one more.
-use Rattle.std.proofs.Common.{◌≡◌, ℕ, ◌+◌, ◌*◌, ◌<◌, ◌≤◌, ◌^◌, true, refl, ap, sym, ◌∙◌, arith, inl, inr, subst, List, [], ◌∷◌, ◌++◌, Some, length, take}
-use Rattle.std.specs.Prelude.{All, slice_get}
-use Rattle.std.specs.Option.{ForSome}
-use Rattle.std.proofs.lemmas.Bool.Decides.{leb_tells}
-use Rattle.std.proofs.lemmas.List.{length_push}
-use Rattle.std.proofs.lemmas.List.Elements.{All-nil, All-cons, All-push, All-weaker}
+-- What sections cost together, one section more at a time, and the front of it.
+use Rattle.std.proofs.Common.{◌≡◌, ℕ, ◌+◌, ◌*◌, ◌≤◌, true, refl, ap, sym, ◌∙◌, arith, subst, List, [], ◌∷◌, ◌++◌, Some, length, take}
+use Rattle.std.specs.Prelude.{slice_get}
+use Rattle.std.proofs.lemmas.List.{length_push, take_more}
+use Rattle.std.proofs.lemmas.List.Elements.{All-nil, All-push, All-weaker}
 use Rattle.std.proofs.lemmas.Option.{slice_get_within, get_or_from_slice_get}
-use Rattle.std.proofs.Math.Nat.{mul-le-mul_right}
+use Rattle.std.proofs.Math.Nat.{mul-le-mul_left}
 use Rattle.pareto_front.specs.declared.point.Point.{Point}
 use Rattle.pareto_front.specs.Front.{cheapest}
-use Rattle.pareto_front.proofs.Bounds.{sums_fit}
-use Rattle.pareto_front.proofs.Prices.{price_of-within}
-use Rattle.duct_definitions.specs.declared.limits.TheConstants.{MAX_SECTIONS}
+use Rattle.duct_definitions.specs.declared.limits.TheConstants.{MAX_SECTIONS, MAX_PRICE}
 use Rattle.duct_definitions.specs.Tree.{Tree, section_count, children, neighbour, is_number}
 use Rattle.duct_definitions.proofs.SectionLists.{chosen_pass, is_number-some}
 use Rattle.least_laws.proofs.DuctsOf.{columns-child}
@@ -19,142 +15,108 @@ use Rattle.duct_definitions.specs.Network.{Network, IsNetwork, size_count, colum
 use Rattle.duct_units.specs.Prices.{both_of}
 use Rattle.least_laws.specs.Prices.{sum_of}
 use Rattle.least_laws.specs.LeastIn.{least_in}
-use Rattle.least_laws.proofs.Loops.{sum_of-take}
-use Rattle.contract_join.specs.SectionFronts.{NeedsWithin, CostsWithin, front_of, most_beyond}
-use Rattle.contract_join.specs.Join.{AreSums, AddsChild}
-use Rattle.contract_join.proofs.Closing.{children-few, front_of-left, front_of-last}
-use Rattle.contract_join.proofs.Fronts.{All-front_of, times-most_beyond}
-
-abbrev pub free : List Point
-free = record { need = 0; cost = 0 } ∷ []
-
-pub cheapest-free : (budget : ℕ) → cheapest free budget ≡ Some 0
-cheapest-free budget = price_of-within (record { need = 0; cost = 0 }) budget (omega arith)
-
-pub free-needs : (most : ℕ) → NeedsWithin most free
-free-needs most = All-cons (λ point. point.need ≤ most) (record { need = 0; cost = 0 }) [] (omega arith) (All-nil (λ point. point.need ≤ most))
-
-pub free-costs : (most : ℕ) → CostsWithin most free
-free-costs most = All-cons (λ point. point.cost ≤ most) (record { need = 0; cost = 0 }) [] (omega arith) (All-nil (λ point. point.cost ≤ most))
-
--- so many fronts of what needs nothing and costs nothing
-pub record AreFree (fronts : List (List Point)) (n : ℕ) : Type 0 where
-  pub count : length fronts ≡ n
-  pub each : All (λ front. front ≡ free) fronts
-
-pub AreFree-push : (fronts : List (List Point)) (n : ℕ) (front : List Point) → AreFree fronts n → front ≡ free → AreFree (fronts ++ front ∷ []) (n + 1)
-AreFree-push fronts n front are is = record {
-  count = (let more = length_push fronts front in let so_far = are.count in omega arith);
-  each = All-push (λ f. f ≡ free) fronts front are.each is;
-}
+use Rattle.least_laws.proofs.SumOf.{sum_of-last}
+use Rattle.contract_join.specs.declared.front_sum.Run.{Run}
+use Rattle.contract_join.specs.SectionFronts.{NeedsWithin, CostsWithin, most_beyond}
+use Rattle.contract_join.specs.FrontSum.{together, count_of, CostWithin, AreSmall, KeepsSum, run_of, in_one}
+use Rattle.contract_join.specs.Join.{AreRunsOf, AddsSection, HasRoom}
+use Rattle.contract_join.proofs.Fronts.{most_beyond-le}
+use Rattle.contract_join.proofs.Runs.{together-push, together-one, count_of-push}
 
 pub take-none : (xs : List ℕ) → take 0 xs ≡ []
 take-none [] = refl
 take-none (x ∷ xs) = refl
 
-pub AreSums-free : (net : Network) → IsNetwork net → (s : ℕ) → s < section_count net.tree → (fronts : List (List Point))
-    → AreFree fronts (size_count net s) → AreSums net s 0 fronts
-AreSums-free net valid s in_range fronts are = record {
-  network = valid;
-  in_range = in_range;
-  some_children = omega arith;
-  count = are.count;
-  value = λ k budget less in_cap.
-      let count = are.count in
-      ap (λ f. cheapest f budget) (All-front_of (λ f. f ≡ free) fronts k are.each (omega arith))
-      ∙ cheapest-free budget
-      ∙ sym (ap (sum_of (λ c. least_in net c k budget)) (take-none (children net.tree s)));
-  needs = All-weaker (λ f. f ≡ free) (NeedsWithin (cap net)) (λ f is. subst (NeedsWithin (cap net)) (sym is) (free-needs (cap net))) fronts are.each;
-  costs = All-weaker (λ f. f ≡ free) (CostsWithin (0 * most_beyond net)) (λ f is. subst (CostsWithin (0 * most_beyond net)) (sym is) (free-costs (0 * most_beyond net))) fronts are.each;
-}
-
--- the child is added in the first n sizes
-pub record IsAddedTo (net : Network) (c : ℕ) (sums fronts : List (List Point)) (n : ℕ) : Type 0 where
-  pub count : length fronts ≡ n
-  pub value : (k budget : ℕ) → k < n → budget ≤ cap net
-      → cheapest (front_of fronts k) budget ≡ both_of (cheapest (front_of sums k) budget) (least_in net c k budget)
-  pub needs : All (NeedsWithin (cap net)) sums → All (NeedsWithin (cap net)) fronts
-  pub costs : (most : ℕ) → All (CostsWithin most) sums → All (CostsWithin (most + most_beyond net)) fronts
-
-pub IsAddedTo-start : (net : Network) (c : ℕ) (sums : List (List Point)) → IsAddedTo net c sums [] 0
-IsAddedTo-start net c sums = record {
+-- no section is added
+pub AreRunsOf-none : (net : Network) (g : ℕ) (runs : List Run) → runs ≡ [] → AreRunsOf net g [] runs
+AreRunsOf-none net g runs none = subst (AreRunsOf net g []) (sym none) (record {
   count = refl;
-  value = λ k budget less in_cap. absurd (omega arith);
-  needs = λ all. All-nil (NeedsWithin (cap net));
-  costs = λ most all. All-nil (CostsWithin (most + most_beyond net));
-}
+  value = λ budget in_cap. refl;
+  needs = All-nil (λ run. NeedsWithin (cap net) run.sum);
+  costs = All-nil (λ run. CostsWithin (run.count * most_beyond net) run.sum);
+})
 
-pub IsAddedTo-push : (net : Network) (c : ℕ) (sums fronts : List (List Point)) (n : ℕ) (front : List Point) → n < length sums
-    → IsAddedTo net c sums fronts n
-    → ((budget : ℕ) → budget ≤ cap net → cheapest front budget ≡ both_of (cheapest (front_of sums n) budget) (least_in net c n budget))
-    → (NeedsWithin (cap net) (front_of sums n) → NeedsWithin (cap net) front)
-    → ((most : ℕ) → CostsWithin most (front_of sums n) → CostsWithin (most + most_beyond net) front)
-    → IsAddedTo net c sums (fronts ++ front ∷ []) (n + 1)
-IsAddedTo-push net c sums fronts n front within added value needs costs = record {
-  count = (let more = length_push fronts front in let so_far = added.count in omega arith);
-  value = λ k budget less in_cap. elim (leb_tells n k) [
-    | inl late ↦
-        (let from = late.1 in
-        let count = added.count in
-        let same : k ≡ n = omega arith in
-        ap (λ f. cheapest f budget) (front_of-last fronts front k (omega arith)) ∙ value budget in_cap
-        ∙ ap (λ j. both_of (cheapest (front_of sums j) budget) (least_in net c j budget)) (sym same))
-    | inr early ↦
-        (let before = early.1 in
-        let count = added.count in
-        ap (λ f. cheapest f budget) (front_of-left fronts front k (omega arith)) ∙ added.value k budget (omega arith) in_cap)
-  ];
-  needs = λ all. All-push (NeedsWithin (cap net)) fronts front (added.needs all)
-      (needs (All-front_of (NeedsWithin (cap net)) sums n all within));
-  costs = λ most all. All-push (CostsWithin (most + most_beyond net)) fronts front (added.costs most all)
-      (costs most (All-front_of (CostsWithin most) sums n all within));
-}
+-- where there is room, one front more keeps all small
+module _ (net : Network) (valid : IsNetwork net) (runs : List Run) where
+  one_most : (front : List Point) → CostsWithin (most_beyond net) front → CostsWithin ((run_of front).count * most_beyond net) front
+  one_most front costs = subst (λ m. CostsWithin m front) (let same : most_beyond net ≡ 1 * most_beyond net = omega arith in same) costs
 
--- a sum and a child's front cost together what fits
-pub child_fits : (net : Network) → IsNetwork net → (sum child : List Point) → CostsWithin (MAX_SECTIONS * most_beyond net) sum
-    → CostsWithin (most_beyond net) child
-    → (budget : ℕ) → ForSome (both_of (cheapest sum budget) (cheapest child budget)) (λ cost. cost < 2 ^ 64)
-child_fits net valid sum child sum_costs child_costs =
-    let all = times-most_beyond net valid.tree MAX_SECTIONS (omega arith) in
-    let one = times-most_beyond net valid.tree 1 (omega arith) in
-    sums_fit sum child (MAX_SECTIONS * most_beyond net) (most_beyond net) sum_costs child_costs (omega arith)
+  weaker : (run : Run) → CostsWithin (run.count * most_beyond net) run.sum → CostsWithin (run.count * (MAX_SECTIONS * MAX_PRICE)) run.sum
+  weaker run low =
+      let most = most_beyond-le net valid.tree in
+      let less = mul-le-mul_left run.count most in
+      All-weaker (λ (p : Point). p.cost ≤ run.count * most_beyond net) (λ p. p.cost ≤ run.count * (MAX_SECTIONS * MAX_PRICE))
+      (λ p at_most. omega arith) run.sum low
 
--- the sums of so few children are within the bound
-pub few-costs : (net : Network) (s added : ℕ) (sums : List (List Point)) → AreSums net s added sums
-    → All (CostsWithin (MAX_SECTIONS * most_beyond net)) sums
-few-costs net s added sums are =
-    let some = are.some_children in
-    let few = children-few net.tree s are.network.tree in
-    let less = mul-le-mul_right (most_beyond net) (let at_most : added ≤ MAX_SECTIONS = omega arith in at_most) in
-    All-weaker (CostsWithin (added * most_beyond net)) (CostsWithin (MAX_SECTIONS * most_beyond net))
-    (λ front. All-weaker (λ (point : Point). point.cost ≤ added * most_beyond net) (λ point. point.cost ≤ MAX_SECTIONS * most_beyond net)
-    (λ point low. omega arith) front)
-    sums are.costs
+  small_costs : CostWithin (most_beyond net) runs → CostWithin (MAX_SECTIONS * MAX_PRICE) runs
+  small_costs costs =
+      All-weaker (λ run. CostsWithin (run.count * most_beyond net) run.sum) (λ run. CostsWithin (run.count * (MAX_SECTIONS * MAX_PRICE)) run.sum)
+      weaker runs costs
 
-pub AreSums-add : (net : Network) (s added c : ℕ) (sums new : List (List Point)) → AreSums net s added sums
-    → slice_get (children net.tree s) added ≡ Some c → AddsChild net c sums new → AreSums net s (added + 1) new
-AreSums-add net s added c sums new are next adds = record {
-  network = are.network;
-  in_range = are.in_range;
-  some_children = (let within = slice_get_within (children net.tree s) added c next in omega arith);
-  count = adds.count ∙ are.count;
-  value = λ k budget less in_cap.
-      let count = are.count in
-      adds.value k budget (omega arith) in_cap
-      ∙ ap (λ o. both_of o (least_in net c k budget)) (are.value k budget less in_cap)
-      ∙ sym (sum_of-take (λ x. least_in net x k budget) (children net.tree s) added c next);
-  needs = adds.needs are.needs;
-  costs = subst (λ most. All (CostsWithin most) new)
-      (let same : added * most_beyond net + most_beyond net ≡ (added + 1) * most_beyond net = omega arith in same)
-      (adds.costs (added * most_beyond net) are.costs);
-}
+  pub AreSmall-within : count_of runs ≤ MAX_SECTIONS → CostWithin (most_beyond net) runs → AreSmall runs
+  AreSmall-within few costs = record {
+    few = few;
+    costs = small_costs costs;
+  }
 
-pub AddsChild-all : (net : Network) (c : ℕ) (sums fronts : List (List Point)) (n : ℕ) → length sums ≡ n → IsAddedTo net c sums fronts n → AddsChild net c sums fronts
-AddsChild-all net c sums fronts n all added = record {
-  count = added.count ∙ sym all;
-  value = λ k budget less in_cap. added.value k budget (omega arith) in_cap;
-  needs = added.needs;
-  costs = added.costs;
+  pub AreSmall-room : (front : List Point) → HasRoom net runs → CostsWithin (most_beyond net) front → AreSmall (runs ++ run_of front ∷ [])
+  AreSmall-room front room costs = record {
+    few = (let more = count_of-push runs (run_of front) in let few = room.few in omega arith);
+    costs = All-push (λ run. CostsWithin (run.count * (MAX_SECTIONS * MAX_PRICE)) run.sum) runs (run_of front) (small_costs room.costs)
+        (weaker (run_of front) (one_most front costs));
+  }
+
+  -- the front of a section is added
+  pub AddsSection-front : (g c : ℕ) (front : List Point) (new : List Run) → KeepsSum (runs ++ run_of front ∷ []) new
+      → ((budget : ℕ) → budget ≤ cap net → cheapest front budget ≡ least_in net c g budget)
+      → NeedsWithin (cap net) front → CostsWithin (most_beyond net) front → AddsSection net c g runs new
+  AddsSection-front g c front new keeps value needs costs = record {
+    count = keeps.count ∙ count_of-push runs (run_of front);
+    value = λ budget in_cap.
+        keeps.value budget ∙ together-push runs (run_of front) budget
+        ∙ ap (both_of (together runs budget)) (value budget in_cap);
+    needs = λ low. keeps.needs (cap net) (All-push (λ run. NeedsWithin (cap net) run.sum) runs (run_of front) low needs);
+    costs = λ low.
+        keeps.costs (most_beyond net)
+        (All-push (λ run. CostsWithin (run.count * most_beyond net) run.sum) runs (run_of front) low (one_most front costs));
+  }
+
+-- one section more of a list
+pub AreRunsOf-next : (net : Network) (g : ℕ) (sections : List ℕ) (i c : ℕ) (runs new : List Run) → slice_get sections i ≡ Some c
+    → AreRunsOf net g (take i sections) runs → AddsSection net c g runs new → AreRunsOf net g (take (i + 1) sections) new
+AreRunsOf-next net g sections i c runs new next are adds =
+    let within = slice_get_within sections i c next in
+    let more : take (i + 1) sections ≡ take i sections ++ c ∷ [] =
+    take_more sections i c within ∙ ap (λ x. take i sections ++ x ∷ []) (get_or_from_slice_get sections i c c next) in
+    subst (λ l. AreRunsOf net g l new) (sym more)
+    (record {
+      count =
+          (let longer = length_push (take i sections) c in
+          let so_far = are.count in
+          let one = adds.count in
+          omega arith);
+      value = λ budget in_cap.
+          adds.value budget in_cap
+          ∙ ap (λ o. both_of o (least_in net c g budget)) (are.value budget in_cap)
+          ∙ sym (sum_of-last (λ x. least_in net x g budget) (take i sections) c);
+      needs = adds.needs are.needs;
+      costs = adds.costs are.costs;
+    })
+
+-- the front of what sections cost together
+pub record IsTotal (net : Network) (g : ℕ) (sections : List ℕ) (front : List Point) : Type 0 where
+  pub value : (budget : ℕ) → budget ≤ cap net → cheapest front budget ≡ sum_of (λ c. least_in net c g budget) sections
+  pub needs : NeedsWithin (cap net) front
+  pub costs : CostsWithin (length sections * most_beyond net) front
+
+pub IsTotal-of : (net : Network) (g : ℕ) (sections : List ℕ) (runs : List Run) (front : List Point) → AreRunsOf net g sections runs
+    → KeepsSum runs (in_one runs front ∷ []) → IsTotal net g sections front
+IsTotal-of net g sections runs front are keeps = record {
+  value = λ budget in_cap.
+      sym (together-one (in_one runs front) budget) ∙ keeps.value budget ∙ are.value budget in_cap;
+  needs = keeps.needs (cap net) are.needs 0 (in_one runs front) (omega arith);
+  costs = subst (λ n. CostsWithin (n * most_beyond net) front) are.count
+      (keeps.costs (most_beyond net) are.costs 0 (in_one runs front) (omega arith));
 }
 
 -- a child's neighbour is the section

@@ -2,7 +2,7 @@
 use Rattle.std.proofs.Common.{◌≡◌, ℕ, zero, suc, ◌+◌, ◌-◌, ◌*◌, ◌<◌, ◌≤◌, ◌^◌, cond, nat_le, Bool, true, false, refl, ap, sym, ◌∙◌, arith, inl, inr, subst, List, [], ◌∷◌, ◌++◌, Option, Some, None, length, get_or}
 use Rattle.std.specs.Prelude.{All, filter}
 use Rattle.std.proofs.lemmas.Bool.Decides.{leb_tells}
-use Rattle.std.proofs.lemmas.List.{take_all, get_or_append_left, get_or_at, length_push, get_or_default}
+use Rattle.std.proofs.lemmas.List.{get_or_append_left, get_or_at, length_push, get_or_default}
 use Rattle.std.proofs.lemmas.List.Elements.{All-push, All-weaker}
 use Rattle.std.proofs.lemmas.List.FromFn.{length-range_with_len}
 use Rattle.pareto_front.specs.declared.point.Point.{Point}
@@ -58,7 +58,7 @@ children-few t s tree =
     let few = few_sections t tree in
     omega arith
 
-module _ (net : Network) (valid : IsNetwork net) (s : ℕ) (sums : List (List Point)) (are_sums : AreSums net s (length (children net.tree s)) sums) where
+module _ (net : Network) (valid : IsNetwork net) (s : ℕ) (sums : List (List Point)) (are_sums : AreSums net s sums) where
   module _ (k : ℕ) (less : k < size_count net s) where
     within : k < length sums
     within = let count = are_sums.count in omega arith
@@ -78,11 +78,6 @@ module _ (net : Network) (valid : IsNetwork net) (s : ℕ) (sums : List (List Po
         (λ point low. omega arith)
         (front_of sums k) (All-front_of (CostsWithin (length (children net.tree s) * most_beyond net)) sums k are_sums.costs within)
 
-    sum_at : (budget : ℕ) → budget ≤ cap net → cheapest (front_of sums k) budget ≡ sum_of (λ c. least_in net c k budget) (children net.tree s)
-    sum_at budget in_cap =
-        are_sums.value k budget less in_cap
-        ∙ ap (sum_of (λ c. least_in net c k budget)) (take_all (length (children net.tree s)) (children net.tree s) (omega arith))
-
     -- one more size that can be joined
     pub least-next : (g budget : ℕ) (pair : Pair) → pair_at net s k g ≡ Some pair → budget ≤ cap net
         → lesser (least_below (least_with net (least_in net) s g budget) k) (with_pair (Some pair) budget (cheapest (front_of sums k)))
@@ -90,7 +85,7 @@ module _ (net : Network) (valid : IsNetwork net) (s : ℕ) (sums : List (List Po
     least-next g budget pair is in_cap =
         ap (lesser (least_below (least_with net (least_in net) s g budget) k))
         (with_pair-same pair budget (cheapest (front_of sums k)) (λ rest. sum_of (λ c. least_in net c k rest) (children net.tree s))
-        (λ rest low. sum_at rest (omega arith))
+        (λ rest low. are_sums.value k rest less (omega arith))
         ∙ ap (λ o. with_pair o budget (λ rest. sum_of (λ c. least_in net c k rest) (children net.tree s))) (sym is))
         ∙ sym (least_below-next (least_with net (least_in net) s g budget) k)
 

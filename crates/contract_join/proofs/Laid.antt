@@ -1,10 +1,10 @@
--- A price that is laid at a need, and the needs that have one.
-use Rattle.std.proofs.Common.{◌≡◌, ◌≢◌, ℕ, ◌+◌, ◌<◌, ◌≤◌, refl, arith, ap, sym, ◌∙◌, inl, inr, Option, Some, None, List, length, get_or, set}
-use Rattle.std.specs.Prelude.{unwrap_or, replicate}
+-- A price that is laid at a need.
+use Rattle.std.proofs.Common.{◌≡◌, ◌≢◌, ℕ, ◌+◌, ◌<◌, ◌≤◌, arith, ap, sym, ◌∙◌, inl, inr, Option, Some, None, List, length, get_or, set}
+use Rattle.std.specs.Prelude.{replicate}
 use Rattle.std.proofs.lemmas.Bool.Decides.{leb_tells}
 use Rattle.std.proofs.lemmas.List.{get_or-set_same, get_or-set_other, get_or_past, get_or-replicate, length-replicate}
 use Rattle.std.proofs.lemmas.Bool.{cases_lt}
-use Rattle.std.proofs.lemmas.Option.{unwrap_or-slice_get, slice_get_read}
+use Rattle.std.proofs.lemmas.Option.{unwrap_or-slice_get}
 use Rattle.pareto_front.specs.declared.point.Point.{Point}
 use Rattle.pareto_front.specs.Front.{price_of}
 use Rattle.pareto_front.proofs.Prices.{price_of-within, price_of-above}
@@ -54,11 +54,6 @@ module _ (prices : List (Option ℕ)) (point : Point) (within : point.need < len
         ∙ sym (lesser-none (least_laid prices budget))
         ∙ ap (lesser (least_laid prices budget)) (sym (price_of-above point budget is))
   ]
-
-pub laid-read : (prices : List (Option ℕ)) (need : ℕ) (price : Option ℕ) → need < length prices
-    → price ≡ get_or prices need price → laid prices need ≡ price
-laid-read prices need price within is =
-    ap (λ o. unwrap_or o None) (slice_get_read prices (length prices) need price refl within is)
 
 pub laid-replicate : (n need : ℕ) → laid (replicate n None) need ≡ None
 laid-replicate n need = elim (cases_lt need n) [

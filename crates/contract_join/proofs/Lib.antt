@@ -5,8 +5,10 @@ pub mod Among
 pub mod Sweeping
 pub mod InOrder
 pub mod Scanning
+pub mod Runs
 pub mod Fronts
 pub mod Closing
 pub mod Adding
+pub mod Children
 pub mod InTurn
 pub mod Sides

@@ -1,14 +1,12 @@
 -- The front of a side, root by root.
-use Rattle.std.proofs.Common.{◌≡◌, ℕ, ◌+◌, ◌*◌, ◌<◌, ◌≤◌, ◌^◌, true, refl, ap, sym, ◌∙◌, arith, subst, List, Option, Some, None, length, take, get_or}
+use Rattle.std.proofs.Common.{◌≡◌, ℕ, ◌+◌, ◌*◌, ◌<◌, ◌≤◌, ◌^◌, true, refl, ap, sym, ◌∙◌, arith, subst, List, [], ◌∷◌, ◌++◌, Option, Some, None, length, take, get_or}
 use Rattle.std.specs.Prelude.{All, is_none, nat_lt, ◌&&◌}
-use Rattle.std.specs.Option.{ForSome}
 use Rattle.std.proofs.lemmas.Bool.{and_parts}
-use Rattle.std.proofs.lemmas.List.{take_all}
+use Rattle.std.proofs.lemmas.List.{take_all, length-take}
 use Rattle.std.proofs.lemmas.List.Elements.{All-weaker}
 use Rattle.std.proofs.lemmas.List.FromFn.{length-range_with_len}
 use Rattle.pareto_front.specs.declared.point.Point.{Point}
 use Rattle.pareto_front.specs.Front.{cheapest}
-use Rattle.pareto_front.proofs.Bounds.{sums_fit}
 use Rattle.duct_units.specs.declared.side.Side.{Side}
 use Rattle.duct_definitions.specs.declared.limits.TheConstants.{MAX_SECTIONS}
 use Rattle.duct_definitions.specs.Tree.{Tree, IsTree, section_count, sections, neighbour, side, same_side, is_root, roots}
@@ -16,15 +14,13 @@ use Rattle.duct_definitions.specs.Network.{Network, IsNetwork, columns, columns_
 use Rattle.duct_definitions.specs.Least.{IsLeast}
 use Rattle.duct_definitions.proofs.SectionLists.{chosen_pass}
 use Rattle.duct_definitions.proofs.TreeLaws.{few_sections}
-use Rattle.duct_units.specs.Prices.{both_of}
-use Rattle.least_laws.specs.Prices.{sum_of}
-use Rattle.least_laws.specs.LeastIn.{least_in}
-use Rattle.least_laws.specs.Choosing.{side_least}
 use Rattle.least_laws.proofs.Leasts.{least_in-unique}
-use Rattle.least_laws.proofs.Loops.{sum_of-take_get_or}
+use Rattle.contract_join.specs.declared.front_sum.Run.{Run}
+use Rattle.contract_join.specs.FrontSum.{AreSmall, KeepsSum, run_of, in_one}
+use Rattle.contract_join.specs.Join.{AreRunsOf}
+use Rattle.contract_join.proofs.Adding.{AddsSection-front, AreSmall-room, AreSmall-within, AreRunsOf-next, IsTotal, IsTotal-of}
 use Rattle.contract_join.specs.SectionFronts.{SectionData, AreFrontsOf, NeedsWithin, CostsWithin, most_beyond}
-use Rattle.std.proofs.lemmas.Option.{slice_get_read}
-use Rattle.contract_join.proofs.Adding.{free, cheapest-free, free-needs, free-costs, take-none}
+use Rattle.std.proofs.lemmas.Option.{slice_get_read, slice_get-get_or}
 use Rattle.contract_join.proofs.Closing.{length-filter-le}
 use Rattle.contract_join.proofs.Fronts.{times-most_beyond}
 
@@ -47,53 +43,6 @@ roots-few t x tree =
     let all = length-range_with_len 0 (section_count t) in
     let few = few_sections t tree in
     omega arith
-
--- the first i roots together
-pub record IsSideTo (net : Network) (x : Side) (sum : List Point) (i : ℕ) : Type 0 where
-  pub value : (budget : ℕ) → budget ≤ cap net → cheapest sum budget ≡ sum_of (λ r. least_in net r 0 budget) (take i (roots net.tree x))
-  pub needs : NeedsWithin (cap net) sum
-  pub costs : CostsWithin (i * most_beyond net) sum
-
-pub IsSideTo-start : (net : Network) (x : Side) (sum : List Point) → sum ≡ free → IsSideTo net x sum 0
-IsSideTo-start net x sum is = record {
-  value = λ budget in_cap.
-      ap (λ f. cheapest f budget) is ∙ cheapest-free budget
-      ∙ sym (ap (sum_of (λ r. least_in net r 0 budget)) (take-none (roots net.tree x)));
-  needs = subst (NeedsWithin (cap net)) (sym is) (free-needs (cap net));
-  costs = subst (CostsWithin (0 * most_beyond net)) (sym is) (free-costs (0 * most_beyond net));
-}
-
-module _ (net : Network) (valid : IsNetwork net) (x : Side) (sum : List Point) (i : ℕ) (within : i < length (roots net.tree x)) (side_to : IsSideTo net x sum i) where
-  pub root_fits : (root : List Point) → CostsWithin (most_beyond net) root
-      → (budget : ℕ) → ForSome (both_of (cheapest sum budget) (cheapest root budget)) (λ cost. cost < 2 ^ 64)
-  root_fits root costs =
-      let few = roots-few net.tree x valid.tree in
-      let all = times-most_beyond net valid.tree i (omega arith) in
-      let one = times-most_beyond net valid.tree 1 (omega arith) in
-      sums_fit sum root (i * most_beyond net) (most_beyond net) side_to.costs costs (omega arith)
-
-  pub IsSideTo-next : (root new : List Point) (r : ℕ) → r ≡ get_or (roots net.tree x) i 0 → r < section_count net.tree
-      → ((budget : ℕ) → budget ≤ cap net → IsLeast net r 0 budget (cheapest root budget))
-      → ((budget : ℕ) → cheapest new budget ≡ both_of (cheapest sum budget) (cheapest root budget))
-      → NeedsWithin (cap net) new → CostsWithin (i * most_beyond net + most_beyond net) new → IsSideTo net x new (i + 1)
-  IsSideTo-next root new r is in_range least value needs costs = record {
-    value = λ budget in_cap.
-        let one : columns net r ≡ 1 = ap (columns net) is ∙ root-columns net x i within in
-        value budget
-        ∙ ap (λ o. both_of o (cheapest root budget)) (side_to.value budget in_cap)
-        ∙ ap (both_of (sum_of (λ r. least_in net r 0 budget) (take i (roots net.tree x))))
-        (least_in-unique net valid.tree r 0 budget (cheapest root budget) in_range (omega arith) (least budget in_cap)
-        ∙ ap (λ q. least_in net q 0 budget) is)
-        ∙ sym (sum_of-take_get_or (λ r. least_in net r 0 budget) (roots net.tree x) i 0 within);
-    needs = needs;
-    costs = subst (λ most. CostsWithin most new)
-        (let same : i * most_beyond net + most_beyond net ≡ (i + 1) * most_beyond net = omega arith in same) costs;
-  }
-
-pub side-value : (net : Network) (x : Side) (sum : List Point) (i : ℕ) → length (roots net.tree x) ≤ i → IsSideTo net x sum i
-    → (budget : ℕ) → budget ≤ cap net → cheapest sum budget ≡ side_least net x budget
-side-value net x sum i end side_to budget in_cap =
-    side_to.value budget in_cap ∙ ap (sum_of (λ r. least_in net r 0 budget)) (take_all i (roots net.tree x) end)
 
 pub side-below : (net : Network) → IsNetwork net → (x : Side) (sum : List Point) → CostsWithin (length (roots net.tree x) * most_beyond net) sum
     → All (λ point. point.cost < 10 ^ 18) sum
@@ -127,3 +76,45 @@ root-found net x i entries entry t items tree_is items_is each inside are is =
       in_range = subst (λ s. s < section_count net.tree) (sym found.1) below;
       beside = ap (λ (n : Network). columns n entry.section) found.0 ∙ ap (columns net) at ∙ root-columns net x i here;
     }
+
+-- the first i roots, with room for one more
+module _ (net : Network) (valid : IsNetwork net) (x : Side) (i : ℕ) (runs : List Run) (are : AreRunsOf net 0 (take i (roots net.tree x)) runs) where
+  pub roots_small : AreSmall runs
+  roots_small =
+      let few = roots-few net.tree x valid.tree in
+      let so_many = are.count in
+      let long = length-take i (roots net.tree x) in
+      AreSmall-within net valid runs (omega arith) are.costs
+
+  pub root_room : i < length (roots net.tree x) → (front : List Point) → CostsWithin (most_beyond net) front
+      → AreSmall (runs ++ run_of front ∷ [])
+  root_room within front costs =
+      let few = roots-few net.tree x valid.tree in
+      let so_many = are.count in
+      let long = length-take i (roots net.tree x) in
+      AreSmall-room net valid runs front (record {
+        few = omega arith;
+        costs = are.costs;
+      }) costs
+
+  pub root_added : (entry : SectionData) → IsRootAt net x i entry → (front : List Point) (new : List Run)
+      → KeepsSum (runs ++ run_of front ∷ []) new
+      → ((budget : ℕ) → budget ≤ cap net → IsLeast net entry.section 0 budget (cheapest front budget))
+      → NeedsWithin (cap net) front → CostsWithin (most_beyond net) front
+      → AreRunsOf net 0 (take (i + 1) (roots net.tree x)) new
+  root_added entry root front new keeps least needs costs =
+      let beside = root.beside in
+      let one : columns net entry.section ≡ 1 = ap (λ (n : Network). columns n entry.section) (sym root.same_net) ∙ root.beside in
+      AreRunsOf-next net 0 (roots net.tree x) i entry.section runs new
+      (slice_get-get_or (roots net.tree x) i 0 root.within ∙ ap Some (sym root.place)) are
+      (AddsSection-front net valid runs 0 entry.section front new keeps
+      (λ budget in_cap.
+      least_in-unique net valid.tree entry.section 0 budget (cheapest front budget) root.in_range (omega arith) (least budget in_cap))
+      needs costs)
+
+  -- the front of all roots
+  pub side-total : length (roots net.tree x) ≤ i → (front : List Point) → KeepsSum runs (in_one runs front ∷ [])
+      → IsTotal net 0 (roots net.tree x) front
+  side-total end front keeps =
+      subst (λ l. IsTotal net 0 l front) (take_all i (roots net.tree x) end)
+      (IsTotal-of net 0 (take i (roots net.tree x)) runs front are keeps)

@@ -1,4 +1,5 @@
 pub mod SectionFronts
+pub mod FrontSum
 pub mod Join
 pub mod Contract
 pub mod Scratch

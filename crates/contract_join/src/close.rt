@@ -1,6 +1,5 @@
 //! The fronts of a section, from the sums of its children's fronts.
-ghost use Rattle.std.specs.Prelude.{◌≡◌, ℕ, ◌<◌, ◌≤◌, IfOk, length};
-ghost use Rattle.duct_definitions.specs.Tree.{children};
+ghost use Rattle.std.specs.Prelude.{◌≡◌, ℕ, ◌<◌, ◌≤◌, IfOk};
 ghost use Rattle.duct_definitions.specs.Network.{columns, cap};
 ghost use Rattle.least_laws.specs.LeastIn.{least_in};
 ghost use Rattle.contract_join.specs.SectionFronts.{AreExact};
@@ -21,7 +20,7 @@ pub(crate) fn fronts_beside(
     s: u32,
     sums: &[Front],
 ) -> Result<List<Front>, NoMemory>
-    requires { AreSums net.now s (length (children net.now.tree s)) sums.now }
+    requires { AreSums net.now s sums.now }
     ensures { IfOk result (AreExact net.now s) }
 {
     let cap = net.cap();
@@ -54,7 +53,7 @@ fn lay_sizes(
     requires clear { IsClear scratch.old }
     requires up_to { IsUpTo (cap net.now) scratch.old }
     requires beside { g < columns net.now s }
-    requires sums { AreSums net.now s (length (children net.now.tree s)) sums.now }
+    requires sums { AreSums net.now s sums.now }
     ensures least { IfOk result (λ _. (budget : ℕ) → budget ≤ cap net.now →
         least_in_scratch scratch.new budget ≡ least_in net.now s g budget) }
     ensures up_to { IfOk result (λ _. IsUpTo (cap net.now) scratch.new) }

@@ -1,13 +1,13 @@
 //! The children of a section, added one by one.
-ghost use Rattle.std.specs.Prelude.{◌≡◌, ◌*◌, ◌<◌, IfOk, All, length};
+ghost use Rattle.std.specs.Prelude.{◌≡◌, ◌<◌, IfOk, All, length};
 ghost use Rattle.duct_definitions.specs.Tree.{section_count};
 ghost use Rattle.duct_definitions.specs.Network.{IsNetwork, columns};
-ghost use Rattle.contract_join.specs.SectionFronts.{CostsWithin, most_beyond};
-ghost use Rattle.contract_join.specs.Join.{AreSums, AddsChild};
+ghost use Rattle.contract_join.specs.FrontSum.{AreSmall};
+ghost use Rattle.contract_join.specs.Join.{IsAdding, AddsChild, HaveRoom, AreTotals};
 
 use crate::close::fronts_beside;
+use crate::front_sum::FrontSum;
 use crate::section_fronts::SectionFronts;
-use duct_definitions::MAX_SECTIONS;
 use duct_units::{List, NoMemory};
 use net_model::Network;
 use pareto_front::Front;
@@ -21,17 +21,20 @@ pub struct Join<'n> {
     net: &'n Network,
     section: u32,
     added: u32,
-    sums: List<Front>,
+    /// The sum for each size of the section; None after want of memory.
+    sums: Option<Vec<FrontSum>>,
 }
 
 impl<'n> Model for Join<'n> {
-    ghost use Rattle.contract_join.specs.Join.{Joining, AreSums};
+    ghost use Rattle.std.specs.Option.{ForSome};
+    ghost use Rattle.contract_join.specs.Join.{Joining, IsAdding};
 
     ghost Value = { Joining };
 
     ghost view = { λ a. record { net = a.net.now; section = a.section; added = a.added } };
 
-    ghost invariant = { λ a. AreSums a.net.now a.section a.added a.sums };
+    ghost invariant = { λ a. ForSome a.sums
+        (λ sums. IsAdding a.net.now a.section a.added sums.items) };
 }
 
 impl<'n> Join<'n> {
@@ -43,12 +46,12 @@ impl<'n> Join<'n> {
         requires { s < section_count net.now.tree }
         ensures { IfOk result (λ join. join ≡ record { net = net.now; section = s; added = 0 }) }
     {
-        let sums = zero_fronts(alloc, net, s)?;
+        let sums = no_children(alloc, net, s)?;
         Ok(Join {
             net,
             section: s,
             added: 0,
-            sums,
+            sums: Some(sums),
         })
     }
 
@@ -59,9 +62,12 @@ impl<'n> Join<'n> {
             ≡ Some child.now.section }
         ensures { IfOk result (λ _. self.new ≡ record self.old { added = self.old.added + 1 }) }
     {
-        let sums = with_child(alloc, self.sums.as_slice(), child)?;
+        let Some(sums) = self.sums.take() else {
+            return Err(NoMemory);
+        };
+        let sums = with_child(alloc, sums, child)?;
         self.added += 1;
-        self.sums = sums;
+        self.sums = Some(sums);
         Ok(())
     }
 
@@ -71,36 +77,61 @@ impl<'n> Join<'n> {
         ensures network { IfOk result (λ fronts. fronts.net ≡ self.entry.net) }
         ensures section { IfOk result (λ fronts. fronts.section ≡ self.entry.section) }
     {
-        let fronts = fronts_beside(alloc, self.net, self.section, self.sums.as_slice())?;
-        Ok(SectionFronts::of(self.net, self.section, fronts))
+        let Join {
+            net,
+            section,
+            added: _,
+            sums,
+        } = self;
+        let Some(sums) = sums else {
+            return Err(NoMemory);
+        };
+        let sums = totals(alloc, sums)?;
+        let fronts = fronts_beside(alloc, net, section, sums.as_slice())?;
+        Ok(SectionFronts::of(net, section, fronts))
     }
 }
 
-/// For each size of section `s` the front of what needs nothing and costs nothing.
-fn zero_fronts(alloc: Global, net: &Network, s: u32) -> Result<List<Front>, NoMemory>
+/// For each size of section `s` the sum of no child.
+fn no_children(alloc: Global, net: &Network, s: u32) -> Result<Vec<FrontSum>, NoMemory>
     requires { s < section_count net.now.tree }
-    ensures { IfOk result (AreSums net.now s 0) }
+    ensures { IfOk result (λ sums. IsAdding net.now s 0 sums.items) }
 {
     let _ = net.tree();
     let count = net.size_count(s);
-    let mut fronts = Vec::with_capacity(alloc, count as usize)?;
+    let mut sums = Vec::with_capacity(alloc, count as usize)?;
     for _ in 0..count {
-        fronts.push(Front::zero(alloc)?)?;
+        sums.push(FrontSum::new(alloc))?;
     }
-    Ok(List::from_vec(fronts))
+    Ok(sums)
 }
 
-/// For each size the sum so far and the front of one more child beside it, together.
-fn with_child(alloc: Global, sums: &[Front], child: &SectionFronts) -> Result<List<Front>, NoMemory>
+/// For each size the sum with the front of one more child beside it.
+fn with_child(
+    alloc: Global,
+    mut sums: Vec<FrontSum>,
+    child: &SectionFronts,
+) -> Result<Vec<FrontSum>, NoMemory>
     requires network { IsNetwork child.now.net }
-    requires beside { length sums.now ≡ columns child.now.net child.now.section }
-    requires costs { All (CostsWithin (MAX_SECTIONS * most_beyond child.now.net)) sums.now }
-    ensures { IfOk result (AddsChild child.now.net child.now.section sums.now) }
+    requires beside { length sums.items ≡ columns child.now.net child.now.section }
+    requires room { HaveRoom child.now.net sums.items }
+    ensures { IfOk result
+        (λ new. AddsChild child.now.net child.now.section sums.items new.items) }
 {
-    let sizes = child.network().columns(child.section());
-    let mut fronts = Vec::with_capacity(alloc, sizes as usize)?;
-    for k in 0..sizes {
-        fronts.push(Front::both(alloc, &sums[k as usize], child.front(k))?)?;
+    for k in 0..child.network().columns(child.section()) {
+        sums[k as usize].add(alloc, child.front(k))?;
+    }
+    Ok(sums)
+}
+
+/// The front of each sum.
+fn totals(alloc: Global, sums: Vec<FrontSum>) -> Result<List<Front>, NoMemory>
+    requires { All (λ sum. AreSmall sum.runs.items) sums.items }
+    ensures { IfOk result (AreTotals sums.items) }
+{
+    let mut fronts = Vec::with_capacity(alloc, sums.len())?;
+    for sum in sums {
+        fronts.push(sum.total(alloc)?)?;
     }
     Ok(List::from_vec(fronts))
 }

@@ -7,6 +7,7 @@
 mod close;
 mod contract;
 mod few_points;
+mod front_sum;
 mod join;
 mod many_points;
 mod scratch;

@@ -11,7 +11,7 @@ use net_model::Pair;
 use pareto_front::{Front, Point};
 use std::alloc::Global;
 
-/// Where fewer points than one in so many budgets are to be laid, they are sorted, and the budgets are not gone through.
+/// Fewer points than one in so many budgets are sorted; for more, all budgets are gone through.
 const FEW: usize = 16;
 
 /// What is laid so far: few points as they came, or the least price at each need from 0 to the greatest, cents.

@@ -6,6 +6,7 @@ ghost use Rattle.least_laws.specs.Choosing.{side_least};
 ghost use Rattle.pareto_front.specs.Front.{cheapest};
 ghost use Rattle.contract_join.specs.SectionFronts.{AreFrontsOf, NeedsWithin, CostsWithin, most_beyond};
 
+use crate::front_sum::FrontSum;
 use crate::section_fronts::SectionFronts;
 use duct_units::{NoMemory, Side};
 use net_model::Network;
@@ -28,9 +29,9 @@ pub fn side_of(
         (CostsWithin (length (roots net.now.tree side) * most_beyond net.now)) }
     ensures below { IfOk result (All (λ point. point.cost < 10 ^ 18)) }
 {
-    let mut sum = Front::zero(alloc)?;
+    let mut sum = FrontSum::new(alloc);
     for root in net.tree().roots(side) {
-        sum = Front::both(alloc, &sum, fronts[*root as usize].front(0))?;
+        sum.add(alloc, fronts[*root as usize].front(0))?;
     }
-    Ok(sum)
+    sum.total(alloc)
 }

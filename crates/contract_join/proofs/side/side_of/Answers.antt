@@ -1,15 +1,18 @@
-use Rattle.std.proofs.Common.{◌≡◌, ℕ, ◌*◌, ◌≤◌, arith, ap, sym, ◌∙◌, subst, List, length}
+use Rattle.std.proofs.Common.{◌≡◌, ℕ, ◌*◌, ◌<◌, ◌≤◌, ◌^◌, arith, ap, sym, ◌∙◌, subst, List, [], ◌∷◌, length}
+use Rattle.std.specs.Prelude.{All, IfOk}
+use Rattle.std.proofs.lemmas.Result.{IfOk-weaker}
 use Rattle.pareto_front.specs.declared.point.Point.{Point}
 use Rattle.pareto_front.specs.Front.{cheapest}
 use Rattle.duct_definitions.specs.Tree.{Tree, roots}
 use Rattle.duct_definitions.specs.Network.{Network, cap}
 use Rattle.duct_definitions.specs.Least.{IsLeast}
+use Rattle.least_laws.specs.Choosing.{side_least}
+use Rattle.contract_join.specs.declared.front_sum.Run.{Run}
+use Rattle.contract_join.specs.FrontSum.{KeepsSum, in_one}
 use Rattle.contract_join.specs.SectionFronts.{NeedsWithin, CostsWithin, most_beyond}
-use Rattle.contract_join.proofs.Sides.{IsSideTo-start, IsSideTo-next, IsRootAt, root-found, root_fits, side-value, side-below}
+use Rattle.contract_join.proofs.Adding.{IsTotal}
+use Rattle.contract_join.proofs.Sides.{IsRootAt, root-found, root_room, root_added, roots_small, side-total, side-below}
 use Rattle.contract_join.proofs.side.side_of.Goals as goal
-
-pub loop-root-init : goal.loop-root-init
-loop-root-init c = IsSideTo-start c.args.net.now c.args.side c.in_ok-sum.sum c.in_ok-sum.ensures
 
 root_at : (c : goal.After-index-fronts-root) → IsRootAt c.args.net.now c.args.side c.loop-root.root-index c.index-fronts-root.result
 root_at c =
@@ -20,49 +23,67 @@ root_at c =
 pub front-requires : goal.front-requires
 front-requires c = let one = (root_at c).beside in omega arith
 
-pub both-requires : goal.both-requires
-both-requires c =
+pub add-requires : goal.add-requires
+add-requires c =
     let root = root-found c.args.net.now c.args.side c.loop-root.root-index c.args.fronts.now c.index-fronts-root.result c.tree.result.now
     c.roots-root-items.result.now c.tree.ensures.tree c.roots-root-items.ensures.value c.roots-root-items.ensures.sections
     c.loop-root-test.true c.requires c.index-fronts-root.is in
-    record {
-      fits = root_fits c.args.net.now c.tree.ensures.network c.args.side c.loop-root.sum c.loop-root.root-index root.within c.loop-root.invariant
-          c.front.result.now (subst (λ (n : Network). CostsWithin (most_beyond n) c.front.result.now) root.same_net c.front.ensures.costs);
-    }
+    root_room c.args.net.now c.tree.ensures.network c.args.side c.loop-root.root-index c.loop-root.sum.runs.items c.loop-root.invariant root.within
+    c.front.result.now (subst (λ (n : Network). CostsWithin (most_beyond n) c.front.result.now) root.same_net c.front.ensures.costs)
 
 pub loop-root-preserved : goal.loop-root-preserved
 loop-root-preserved c =
     let net = c.args.net.now in
     let front : List Point = c.front.result.now in
     let section = c.index-fronts-root.result.section in
-    let new = c.in_ok-sum-2 in
-    let so_far = c.loop-root.invariant in
     let root = root-found c.args.net.now c.args.side c.loop-root.root-index c.args.fronts.now c.index-fronts-root.result c.tree.result.now
     c.roots-root-items.result.now c.tree.ensures.tree c.roots-root-items.ensures.value c.roots-root-items.ensures.sections
     c.loop-root-test.true c.requires c.index-fronts-root.is in
-    IsSideTo-next net c.tree.ensures.network c.args.side c.loop-root.sum c.loop-root.root-index root.within so_far front new.sum
-    section root.place root.in_range
+    root_added net c.tree.ensures.network c.args.side c.loop-root.root-index c.loop-root.sum.runs.items c.loop-root.invariant
+    c.index-fronts-root.result root front c.add.new.self.runs.items c.in_ok-add.ensures
     (λ budget in_cap.
     subst (λ (n : Network). IsLeast n section 0 budget (cheapest front budget)) root.same_net
     (c.front.ensures.least budget (subst (λ (n : Network). budget ≤ cap n) (sym root.same_net) in_cap)))
-    new.ensures.value
-    (new.ensures.needs (cap net) so_far.needs (subst (λ (n : Network). NeedsWithin (cap n) front) root.same_net c.front.ensures.needs))
-    (new.ensures.bounded (c.loop-root.root-index * most_beyond net) (most_beyond net) so_far.costs
-    (subst (λ (n : Network). CostsWithin (most_beyond n) front) root.same_net c.front.ensures.costs))
+    (subst (λ (n : Network). NeedsWithin (cap n) front) root.same_net c.front.ensures.needs)
+    (subst (λ (n : Network). CostsWithin (most_beyond n) front) root.same_net c.front.ensures.costs)
 
-all_roots : (c : goal.After-loop-root) → c.loop-root.root-index ≡ length (roots c.args.net.now.tree c.args.side)
+pub total-requires : goal.total-requires
+total-requires c =
+    roots_small c.args.net.now c.tree.ensures.network c.args.side c.loop-root.root-index c.loop-root.sum.runs.items c.loop-root.invariant
+
+all_roots : (c : goal.After-total) → length (roots c.args.net.now.tree c.args.side) ≤ c.loop-root.root-index
 all_roots c =
-    let end : c.loop-root.root-index ≡ length c.roots-root-items.result.now = omega arith in
-    end ∙ ap (λ (l : List ℕ). length l) (c.roots-root-items.ensures.value ∙ ap (λ (t : Tree). roots t c.args.side) c.tree.ensures.tree)
+    let same : c.roots-root-items.result.now ≡ roots c.args.net.now.tree c.args.side =
+    c.roots-root-items.ensures.value ∙ ap (λ (t : Tree). roots t c.args.side) c.tree.ensures.tree in
+    subst (λ (l : List ℕ). length l ≤ c.loop-root.root-index) same c.loop-root-test.false
+
+total_is : (c : goal.After-total) → IfOk c.total.result (IsTotal c.args.net.now 0 (roots c.args.net.now.tree c.args.side))
+total_is c =
+    let runs : List Run = c.loop-root.sum.runs.items in
+    IfOk-weaker c.total.result (λ front. KeepsSum runs (in_one runs front ∷ []))
+    (IsTotal c.args.net.now 0 (roots c.args.net.now.tree c.args.side))
+    (side-total c.args.net.now c.tree.ensures.network c.args.side c.loop-root.root-index runs c.loop-root.invariant (all_roots c))
+    c.total.ensures
 
 pub returns-clause-value : goal.returns-clause-value
-returns-clause-value c budget in_cap =
-    let end = all_roots c in
-    side-value c.args.net.now c.args.side c.loop-root.sum c.loop-root.root-index (omega arith) c.loop-root.invariant budget in_cap
+returns-clause-value c =
+    IfOk-weaker c.total.result (IsTotal c.args.net.now 0 (roots c.args.net.now.tree c.args.side))
+    (λ front. (budget : ℕ) → budget ≤ cap c.args.net.now → cheapest front budget ≡ side_least c.args.net.now c.args.side budget)
+    (λ front is. is.value) (total_is c)
+
+pub returns-clause-needs : goal.returns-clause-needs
+returns-clause-needs c =
+    IfOk-weaker c.total.result (IsTotal c.args.net.now 0 (roots c.args.net.now.tree c.args.side)) (NeedsWithin (cap c.args.net.now))
+    (λ front is. is.needs) (total_is c)
 
 pub returns-clause-costs : goal.returns-clause-costs
 returns-clause-costs c =
-    subst (λ n. CostsWithin (n * most_beyond c.args.net.now) c.loop-root.sum) (all_roots c) c.loop-root.invariant.costs
+    IfOk-weaker c.total.result (IsTotal c.args.net.now 0 (roots c.args.net.now.tree c.args.side))
+    (CostsWithin (length (roots c.args.net.now.tree c.args.side) * most_beyond c.args.net.now))
+    (λ front is. is.costs) (total_is c)
 
 pub returns-clause-below : goal.returns-clause-below
-returns-clause-below c = side-below c.args.net.now c.tree.ensures.network c.args.side c.loop-root.sum (returns-clause-costs c)
+returns-clause-below c =
+    IfOk-weaker c.total.result (CostsWithin (length (roots c.args.net.now.tree c.args.side) * most_beyond c.args.net.now))
+    (λ front. All (λ point. point.cost < 10 ^ 18) front)
+    (λ front low. side-below c.args.net.now c.tree.ensures.network c.args.side front low) (returns-clause-costs c)

@@ -1,54 +1,71 @@
-use Rattle.std.proofs.Common.{◌≡◌, ◌*◌, arith, ap, sym, ◌∙◌, subst, List, Some, length}
-use Rattle.std.specs.Prelude.{All, slice_get}
+use Rattle.std.proofs.Common.{◌≡◌, ℕ, ◌+◌, arith, ap, sym, ◌∙◌, subst, Some, Option, Vec, Global}
+use Rattle.std.specs.Prelude.{slice_get}
+use Rattle.std.specs.Option.{ForSome}
 use Rattle.std.proofs.lemmas.Option.{slice_get_within}
-use Rattle.pareto_front.specs.declared.point.Point.{Point}
-use Rattle.duct_definitions.specs.declared.limits.TheConstants.{MAX_SECTIONS}
 use Rattle.duct_definitions.specs.Tree.{children}
 use Rattle.duct_definitions.specs.Network.{Network, columns}
-use Rattle.contract_join.specs.SectionFronts.{CostsWithin, most_beyond}
-use Rattle.contract_join.specs.Join.{Joining, AddsChild}
-use Rattle.contract_join.proofs.Adding.{AreSums-add, few-costs, child-columns}
+use Rattle.contract_join.specs.declared.front_sum.FrontSum.{FrontSum}
+use Rattle.contract_join.specs.declared.join.Join.TheInside.{Inside}
+use Rattle.contract_join.specs.Join.{Joining, IsAdding, AddsChild, HaveRoom}
+use Rattle.contract_join.proofs.Adding.{child-columns}
+use Rattle.contract_join.proofs.Children.{IsAdding-next, HaveRoom-next}
 use Rattle.contract_join.proofs.Closing.{children-few}
 use Rattle.contract_join.proofs.join.Join.add.Goals as goal
 
+abbrev joining : Inside → Joining
+joining own = record { net = own.net.now; section = own.section; added = own.added }
+
+-- the sums that are there, and the child that is the next one, of the fields that the value was opened to
+sums_there : (own : Inside) (sums : Vec FrontSum Global) (o : Option (Vec FrontSum Global))
+    → ForSome own.sums (λ x. IsAdding own.net.now own.section own.added x.items) → o ≡ own.sums → o ≡ Some sums
+    → IsAdding own.net.now own.section own.added sums.items
+sums_there own sums o each was is = each sums (sym was ∙ is)
+
+is_next : (own : Inside) (now : Joining) (c : ℕ) → joining own ≡ now → slice_get (children now.net.tree now.section) now.added ≡ Some c
+    → slice_get (children own.net.now.tree own.section) own.added ≡ Some c
+is_next own now c same next = subst (λ (v : Joining). slice_get (children v.net.tree v.section) v.added ≡ Some c) (sym same) next
+
+same_net : (own : Inside) (now : Joining) (net : Network) → joining own ≡ now → net ≡ now.net → net ≡ own.net.now
+same_net own now net same is = is ∙ sym (ap (λ (v : Joining). v.net) same)
+
 pub with_child-requires-clause-beside : goal.with_child-requires-clause-beside
 with_child-requires-clause-beside c =
-    let own = c.self.inside in
+    let own : Inside = c.self.inside in
     let child = c.args.child.now in
-    let next : slice_get (children own.net.now.tree own.section) own.added ≡ Some child.section =
-    subst (λ (v : Joining). slice_get (children v.net.tree v.section) v.added ≡ Some child.section) (sym c.self.view_is) c.requires.next in
-    let net_is : child.net ≡ own.net.now = c.requires.network ∙ sym (ap (λ (v : Joining). v.net) c.self.view_is) in
-    ap (λ (l : List (List Point)). length l) c.as_slice.ensures
-    ∙ c.self.invariant.count
+    let next = is_next own c.args.self.now child.section c.self.view_is c.requires.next in
+    (sums_there own c.in-Some.sums c.take.result c.self.invariant c.take.ensures.value c.in-Some.is).count
     ∙ sym (child-columns own.net.now own.section own.added child.section next)
-    ∙ ap (λ (n : Network). columns n child.section) (sym net_is)
+    ∙ ap (λ (n : Network). columns n child.section) (sym (same_net own c.args.self.now child.net c.self.view_is c.requires.network))
 
-pub with_child-requires-clause-costs : goal.with_child-requires-clause-costs
-with_child-requires-clause-costs c =
-    let own = c.self.inside in
+pub with_child-requires-clause-room : goal.with_child-requires-clause-room
+with_child-requires-clause-room c =
+    let own : Inside = c.self.inside in
     let child = c.args.child.now in
-    let net_is : child.net ≡ own.net.now = c.requires.network ∙ sym (ap (λ (v : Joining). v.net) c.self.view_is) in
-    subst (λ (n : Network). All (CostsWithin (MAX_SECTIONS * most_beyond n)) c.as_slice.result.now) (sym net_is)
-    (subst (λ (l : List (List Point)). All (CostsWithin (MAX_SECTIONS * most_beyond own.net.now)) l) (sym c.as_slice.ensures)
-    (few-costs own.net.now own.section own.added own.sums c.self.invariant))
+    subst (λ (n : Network). HaveRoom n c.in-Some.sums.items)
+    (sym (same_net own c.args.self.now child.net c.self.view_is c.requires.network))
+    (HaveRoom-next own.net.now own.section own.added child.section c.in-Some.sums.items
+    (sums_there own c.in-Some.sums c.take.result c.self.invariant c.take.ensures.value c.in-Some.is)
+    (is_next own c.args.self.now child.section c.self.view_is c.requires.next))
 
 pub overflow_add-self : goal.overflow_add-self
 overflow_add-self c =
-    let own = c.self.inside in
+    let own : Inside = c.self.inside in
     let child = c.args.child.now in
-    let next : slice_get (children own.net.now.tree own.section) own.added ≡ Some child.section =
-    subst (λ (v : Joining). slice_get (children v.net.tree v.section) v.added ≡ Some child.section) (sym c.self.view_is) c.requires.next in
-    let within = slice_get_within (children own.net.now.tree own.section) own.added child.section next in
-    let few = children-few own.net.now.tree own.section c.self.invariant.network.tree in
+    let adding = sums_there own c.in-Some.sums c.take.result c.self.invariant c.take.ensures.value c.in-Some.is in
+    let within = slice_get_within (children own.net.now.tree own.section) own.added child.section
+    (is_next own c.args.self.now child.section c.self.view_is c.requires.next) in
+    let few = children-few own.net.now.tree own.section adding.network.tree in
     omega arith
 
-pub invariant_of-self : goal.invariant_of-self
-invariant_of-self c =
-    let own = c.self.inside in
+pub invariant_of-self-2 : goal.invariant_of-self-2
+invariant_of-self-2 c sums is =
+    let own : Inside = c.self.inside in
     let child = c.args.child.now in
-    let next : slice_get (children own.net.now.tree own.section) own.added ≡ Some child.section =
-    subst (λ (v : Joining). slice_get (children v.net.tree v.section) v.added ≡ Some child.section) (sym c.self.view_is) c.requires.next in
-    let net_is : child.net ≡ own.net.now = c.requires.network ∙ sym (ap (λ (v : Joining). v.net) c.self.view_is) in
-    AreSums-add own.net.now own.section own.added child.section own.sums c.in_ok-sums.sums c.self.invariant next
-    (subst (λ (n : Network). AddsChild n child.section own.sums c.in_ok-sums.sums) net_is
-    (subst (λ (l : List (List Point)). AddsChild child.net child.section l c.in_ok-sums.sums) c.as_slice.ensures c.in_ok-sums.ensures))
+    let new : Vec FrontSum Global = c.in_ok-sums.sums in
+    let same : c.in_ok-sums.sums ≡ sums = cc in
+    subst (λ (v : Vec FrontSum Global). IsAdding own.net.now own.section (own.added + 1) v.items) same
+    (IsAdding-next own.net.now own.section own.added child.section c.in-Some.sums.items new.items
+    (sums_there own c.in-Some.sums c.take.result c.self.invariant c.take.ensures.value c.in-Some.is)
+    (is_next own c.args.self.now child.section c.self.view_is c.requires.next)
+    (subst (λ (n : Network). AddsChild n child.section c.in-Some.sums.items new.items)
+    (same_net own c.args.self.now child.net c.self.view_is c.requires.network) c.in_ok-sums.ensures))
