@@ -1,9 +1,9 @@
 //! The best design of a network, by the three steps of the T-method over catalogue sizes: condensing, the fan,
 //! expanding.
 //!
-//! Condensing gives each section the exact fronts of what budgets of pressure (dPa) buy (cents), from the leaves towards
-//! the fan, and then each side its front. The fan is chosen over the fronts of the two sides. Expanding takes the sizes
-//! from the fan outwards, within what the fan leaves each side (docs/METHOD.md).
+//! Condensing gives each section the exact fronts of what budgets of pressure, dPa, buy at the least cost, cents, from
+//! the leaves towards the fan, and then each side its front. The fan is chosen over the fronts of the two sides.
+//! Expanding takes the sizes from the fan outwards, within what the fan leaves each side (docs/METHOD.md).
 #![tactic(auto)]
 
 ghost use Rattle.std.specs.Prelude.{IfOk, IfSome, IfNone};
