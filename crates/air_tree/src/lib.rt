@@ -10,6 +10,3 @@ mod rules;
 mod tree;
 
 pub use tree::AirTree;
-
-#[cfg(test)]
-mod tests;

@@ -9,6 +9,3 @@ pub mod laws;
 mod passes;
 
 pub use dampers::{Dampers, balance};
-
-#[cfg(test)]
-mod tests;

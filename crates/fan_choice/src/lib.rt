@@ -10,6 +10,3 @@ mod sharing;
 
 pub use choice::{COST_LIMIT, Choice};
 pub use choosing::choose;
-
-#[cfg(test)]
-mod tests;

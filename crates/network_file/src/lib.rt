@@ -11,8 +11,6 @@ mod pairs;
 mod reading;
 mod sections;
 mod sizes;
-#[cfg(test)]
-mod tests;
 mod top;
 
 pub use pairs::MAX_PAIRS;
