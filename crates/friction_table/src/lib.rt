@@ -13,6 +13,3 @@ mod table;
 pub use friction::Friction;
 pub use limits::{MAX_FLOW, MAX_LENGTH, MAX_ROWS};
 pub use reading::read_friction;
-
-#[cfg(test)]
-mod tests;

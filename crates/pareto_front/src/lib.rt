@@ -13,6 +13,3 @@ mod sweep;
 
 pub use front::Front;
 pub use point::Point;
-
-#[cfg(test)]
-mod tests;

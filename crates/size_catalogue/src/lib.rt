@@ -14,6 +14,3 @@ pub use limits::{MAX_LIST_SIZES, MAX_LISTS};
 pub use reading::read_sizes;
 pub use row::Size;
 pub use sizes::Sizes;
-
-#[cfg(test)]
-mod tests;

@@ -1,0 +1,15 @@
+//! Tests alone, of the crates that no command reaches: cases worked by hand, each a line of a table.
+//!
+//! Each module has one table. `texts` says how a table spells a file.
+#![tactic(auto)]
+
+#[cfg(test)]
+mod friction;
+#[cfg(test)]
+mod fronts;
+#[cfg(test)]
+mod sizes;
+#[cfg(test)]
+mod texts;
+#[cfg(test)]
+mod trees;
