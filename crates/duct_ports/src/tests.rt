@@ -1,219 +1,112 @@
-//! What no clause says: that calls succeed, how often a file is asked for its bytes, and real files
-//! and output.
-ghost use Rattle.std.specs.Prelude.{◌≡◌, [], IfOk};
+//! That calls find memory, how often a file is asked for its bytes, and how much a sink is offered.
+ghost use Rattle.std.specs.Prelude.{◌<◌, length};
+ghost use Rattle.duct_ports.specs.declared.files.TheConstants.{MAX_NAMES};
 
 use crate::{
-    DiskFiles, Files, Gate, HeldFile, MemoryFiles, MemorySink, OpenGate, Sink, StdSink, SureFiles,
-    SureSink, TakeError, read_all, write_all,
+    Files, Gate, HeldFile, MemoryFiles, MemorySink, OpenGate, Sink, SureFiles, read_all, write_all,
 };
 use duct_units::List;
-use std::alloc::Global;
-use std::fmt::Display;
+use std::alloc::{AllocError, Global};
 use std::test::Fail;
-use std::{fs, io};
 
-/// What was taken; nothing where the answer is an error.
-fn bytes_of(answer: &Result<List<u8>, TakeError>) -> &[u8] {
-    match answer {
-        Ok(bytes) => bytes.as_slice(),
-        Err(_) => &[],
+/// A case a line: how many bytes are read, or none, and how many faults there are; a bar; the file, how many bytes it
+/// holds, and the call that fails. Call 0 is none, of files that never fail.
+///
+/// Call 1 starts the file, each further call gives up to 65,536 bytes, and one more finds the end. So 4,194,304 bytes
+/// take the calls 1 to 66, and of one byte more call 66 reads the last.
+const READS: &str = "
+a file was not read, 1 | a 5 1
+a file was not read, 1 | a 5 2
+a file was not read, 1 | a 5 3
+5 bytes, 0 | a 5 4
+0 bytes, 0 | a 0 3
+a file was not read, 1 | b 5 9
+a file was not read, 1 | a 4194304 66
+4194304 bytes, 0 | a 4194304 67
+a file was not read, 1 | a 4194305 66
+a file is too long, 0 | a 4194305 67
+5 bytes, 0 | a 5 0
+0 bytes, 0 | b 5 0
+";
+
+/// A case a line: what was taken, and how many faults there are; a bar; the room, the call that fails, and the text,
+/// of which a call takes 4 bytes at most.
+const WRITES: &str = "
+, 1 | 0 9 abc
+a, 1 | 1 9 abc
+ab, 1 | 2 9 abc
+abc, 0 | 3 9 abc
+abc, 0 | 4 9 abc
+design 1, 1 | 100 3 design 1, name
+";
+
+#[test]
+fn a_file_is_read_by_these_calls(rt: HostRuntime) -> Result<(), Fail> {
+    for line in READS.lines() {
+        if let Some((wanted, case)) = line.split_once(" | ") {
+            let found = read(rt.alloc(), case)?;
+            assert_eq!(rt; found.as_str(), wanted, "at {line}");
+        }
     }
+    Ok(())
 }
 
-/// Which error the answer is; an empty text where the file was taken.
-fn error_of(answer: &Result<List<u8>, TakeError>) -> &'static str {
-    match answer {
-        Ok(_) => "",
-        Err(TakeError::Fault) => "fault",
-        Err(TakeError::TooLong) => "too long",
-        Err(TakeError::NoMemory) => "no memory",
+fn read(alloc: Global, case: &str) -> Result<String, Fail> {
+    let (name, numbers) = case.split_once(' ').ok_or("no length")?;
+    let (len, call) = numbers.split_once(' ').ok_or("no call")?;
+    let files = one_file(alloc, len.parse::<usize>()?)?;
+    let call = call.parse::<u32>()?;
+    if call == 0 {
+        return Ok(taken(alloc, SureFiles::new(files), name)?);
     }
+    let fails = List::from_vec(vec![in alloc; call]?);
+    Ok(taken(alloc, MemoryFiles::new(files, fails), name)?)
 }
 
-fn list(alloc: Global, bytes: &[u8]) -> Result<List<u8>, Fail> {
-    Ok(List::from_vec(bytes.to_vec(alloc)?))
-}
-
-fn held(alloc: Global, name: &[u8], bytes: &[u8]) -> Result<HeldFile, Fail> {
-    Ok(HeldFile {
-        name: list(alloc, name)?,
-        bytes: list(alloc, bytes)?,
-    })
-}
-
-/// Two files named `a`, and an empty one.
-fn shelf(alloc: Global) -> Result<List<HeldFile>, Fail> {
-    Ok(List::from_vec(vec![in alloc;
-        held(alloc, b"a", b"first")?,
-        held(alloc, b"empty", b"")?,
-        held(alloc, b"a", b"second")?,
-    ]?))
-}
-
-/// One file, `long`, of so many bytes, and a call that fails.
-fn long_file<'w>(alloc: Global, len: usize, fails: u32) -> Result<MemoryFiles<'w>, Fail>
-    ensures { IfOk result (λ files. files.asked ≡ []) }
-{
+/// One file, `a`, of so many bytes.
+fn one_file(alloc: Global, len: usize) -> Result<List<HeldFile>, AllocError> {
     let file = HeldFile {
-        name: list(alloc, b"long")?,
+        name: List::from_vec(b"a".to_vec(alloc)?),
         bytes: List::from_vec(vec![in alloc; b'x'; len]?),
     };
-    Ok(MemoryFiles::new(
-        List::from_vec(vec![in alloc; file]?),
-        List::from_vec(vec![in alloc; fails]?),
-    ))
+    Ok(List::from_vec(vec![in alloc; file]?))
 }
 
-#[test]
-fn a_name_gives_its_first_file_and_a_failing_call_a_fault(rt: HostRuntime) -> Result<(), Fail> {
-    // `a` takes three calls: a start, a read of its 5 bytes, and a read of its end.
-    for (name, fails, bytes, error, faults) in [
-        ("a", 1u32, "", "fault", 1u64),
-        ("a", 2, "", "fault", 1),
-        ("a", 3, "", "fault", 1),
-        ("a", 4, "first", "", 0),
-        ("empty", 4, "", "", 0),
-        ("absent", 4, "", "fault", 1),
-    ] {
-        let fails_at = List::from_vec(vec![in rt.alloc(); fails]?);
-        let mut files = MemoryFiles::new(shelf(rt.alloc())?, fails_at);
-        let answer = read_all(rt.alloc(), &mut files, name);
-        assert_eq!(rt;
-            bytes_of(&answer),
-            bytes.as_bytes(),
-            "{name}, where call {fails} fails"
-        );
-        assert_eq!(rt;
-            error_of(&answer),
-            error,
-            "{name}, where call {fails} fails"
-        );
-        assert_eq!(rt; files.faults(), faults, "{name}, where call {fails} fails");
-    }
-    Ok(())
-}
-
-#[test]
-fn a_file_holds_4194304_bytes_and_no_more(rt: HostRuntime) -> Result<(), Fail> {
-    // Call 1 starts the file, calls 2 to 65 give 64 times 65,536 = 4,194,304 bytes, and call 66
-    // gives the end, or the one byte too many.
-    for (len, fails, taken, error) in [
-        (4_194_304usize, 66u32, 0usize, "fault"),
-        (4_194_304, 67, 4_194_304, ""),
-        (4_194_305, 66, 0, "fault"),
-        (4_194_305, 67, 0, "too long"),
-    ] {
-        let mut files = long_file(rt.alloc(), len, fails)?;
-        let answer = read_all(rt.alloc(), &mut files, "long");
-        assert_eq!(rt;
-            bytes_of(&answer).len(),
-            taken,
-            "{len} bytes, where call {fails} fails"
-        );
-        assert_eq!(rt;
-            error_of(&answer),
-            error,
-            "{len} bytes, where call {fails} fails"
-        );
-    }
-    Ok(())
-}
-
-#[test]
-fn a_write_that_stops_leaves_a_prefix(rt: HostRuntime) -> Result<(), Fail> {
-    // Where at most 4 bytes are taken at once and call 3 fails, 2 times 4 bytes were taken.
-    for (room, most, fails, text, want) in [
-        (0u64, 1u64, 9u32, "abc", ""),
-        (1, 1, 9, "abc", "a"),
-        (2, 1, 9, "abc", "ab"),
-        (3, 1, 9, "abc", "abc"),
-        (4, 1, 9, "abc", "abc"),
-        (100, 4, 3, "design 1, name", "design 1"),
-        (0, 1, 1, "", ""),
-    ] {
-        let fails_at = List::from_vec(vec![in rt.alloc(); fails]?);
-        let mut sink = MemorySink::new(rt.alloc(), room, most, fails_at)?;
-        let is_whole = write_all(&mut sink, text.as_bytes()).is_ok();
-        assert_eq!(rt; sink.bytes(), want.as_bytes(), "{text} in a room of {room}");
-        assert_eq!(rt;
-            is_whole,
-            text.len() == want.len(),
-            "{text} in a room of {room}"
-        );
-        assert_eq!(rt;
-            sink.faults(),
-            u64::from(!is_whole),
-            "{text} in a room of {room}"
-        );
-    }
-    Ok(())
-}
-
-#[test]
-fn sure_files_and_a_sure_sink_never_fail(rt: HostRuntime) -> Result<(), Fail> {
-    for (name, want) in [("a", "first"), ("empty", ""), ("absent", "")] {
-        let mut files = SureFiles::new(shelf(rt.alloc())?);
-        let bytes = read_all(rt.alloc(), &mut files, name)?;
-        assert_eq!(rt; bytes.as_slice(), want.as_bytes(), "{name}");
-    }
-    let mut sink = SureSink::new();
-    assert_eq!(rt; sink.write(b"abc")?, 3);
-    write_all(&mut sink, b"abc")?;
-    assert_eq!(rt; sink.faults(), 0);
-    Ok(())
-}
-
-#[test]
-fn a_real_file_is_read_whole_and_what_is_no_file_is_a_fault(rt: HostRuntime) -> Result<(), Fail> {
-    fs::write(&rt, "whole.txt", "two\nlines\n")?;
-    // A file, a path that leads nowhere, and a folder.
-    for (name, bytes, error, faults) in [
-        ("whole.txt", "two\nlines\n", "", 0u64),
-        ("absent.txt", "", "fault", 1),
-        (".", "", "fault", 1),
-    ] {
-        let mut files = DiskFiles::new(&rt);
-        let answer = read_all(rt.alloc(), &mut files, name);
-        assert_eq!(rt; bytes_of(&answer), bytes.as_bytes(), "{name}");
-        assert_eq!(rt; error_of(&answer), error, "{name}");
-        assert_eq!(rt; files.faults(), faults, "{name}");
-    }
-    fs::remove_file(&rt, "whole.txt")?;
-    Ok(())
-}
-
-/// An output that takes nothing, and says so.
-#[derive(Drop)]
-struct Stuck;
-
-impl Print for Stuck {
-    fn print<D: Display + Drop>(&self, _value: D) -> io::Result<()> {
-        Ok(())
-    }
-
-    fn println<D: Display + Drop>(&self, _value: D) -> io::Result<()> {
-        Ok(())
-    }
-
-    fn write_all(&self, _bytes: &[u8]) -> io::Result<()> {
-        Ok(())
-    }
-
-    fn write_some(&self, _bytes: &[u8]) -> io::Result<usize> {
-        Ok(0)
+fn taken<'w, F: Files<'w> + Drop>(
+    alloc: Global,
+    mut files: F,
+    name: &'w str,
+) -> Result<String, AllocError>
+    requires { length (F.asked files) < MAX_NAMES }
+{
+    let answer = read_all(alloc, &mut files, name);
+    let faults = files.faults();
+    match answer {
+        Ok(bytes) => format!(in alloc; "{} bytes, {faults}", bytes.as_slice().len()),
+        Err(error) => format!(in alloc; "{error}, {faults}"),
     }
 }
 
 #[test]
-fn an_output_that_takes_nothing_is_a_fault(rt: HostRuntime) -> Result<(), Fail> {
-    let mut output = StdSink::new(&rt);
-    write_all(&mut output, b"written to the standard output\n")?;
-    assert_eq!(rt; output.faults(), 0);
-    let stuck = Stuck;
-    let mut sink = StdSink::new(&stuck);
-    assert!(rt; write_all(&mut sink, b"text").is_err());
-    assert_eq!(rt; sink.faults(), 1);
+fn a_sink_takes_what_it_has_room_for(rt: HostRuntime) -> Result<(), Fail> {
+    for line in WRITES.lines() {
+        if let Some((wanted, case)) = line.split_once(" | ") {
+            let found = written(rt.alloc(), case)?;
+            assert_eq!(rt; found.as_str(), wanted, "at {line}");
+        }
+    }
     Ok(())
+}
+
+fn written(alloc: Global, case: &str) -> Result<String, Fail> {
+    let (room, case) = case.split_once(' ').ok_or("no call")?;
+    let (call, text) = case.split_once(' ').ok_or("no text")?;
+    let (room, call) = (room.parse::<u64>()?, call.parse::<u32>()?);
+    let fails = List::from_vec(vec![in alloc; call]?);
+    let mut sink = MemorySink::new(alloc, room, 4, fails)?;
+    let _ = write_all(&mut sink, text.as_bytes());
+    let taken = std::str::from_utf8(sink.bytes()).unwrap_or("?");
+    Ok(format!(in alloc; "{taken}, {}", sink.faults())?)
 }
 
 fn pass<G: Gate>(gate: &G) {
