@@ -61,10 +61,12 @@ fn a_call_gives_what_is_worked_by_hand(rt: HostRuntime) -> Result<(), Fail> {
 
 /// What the call gives.
 fn outcome(alloc: Global, case: &str) -> Result<String, Fail> {
-    match case.split_once(" cheapest ") {
-        Some((front, budget)) => price(alloc, &front_of(alloc, front)?, budget),
-        None => points(alloc, made(alloc, case)?.points()),
+    if let Some((front, budget)) = case.split_once(" cheapest ") {
+        let front = front_of(alloc, front)?;
+        return price(alloc, &front, budget);
     }
+    let made = made(alloc, case)?;
+    points(alloc, made.points())
 }
 
 fn price(alloc: Global, front: &Front, budget: &str) -> Result<String, Fail> {
@@ -77,33 +79,42 @@ fn price(alloc: Global, front: &Front, budget: &str) -> Result<String, Fail> {
 /// The front that the call makes.
 fn made(alloc: Global, case: &str) -> Result<Front, Fail> {
     if let Some((front, moved)) = case.split_once(" shift ") {
-        return shifted(alloc, &front_of(alloc, front)?, moved);
+        return shifted(alloc, front, moved);
     }
     if let Some((a, b)) = case.split_once(" either ") {
-        return Ok(Front::either(alloc, &front_of(alloc, a)?, &front_of(alloc, b)?)?);
+        return either(alloc, a, b);
     }
     let (a, b) = case.split_once(" both ").ok_or("no call")?;
-    both(alloc, &front_of(alloc, a)?, &front_of(alloc, b)?)
+    both(alloc, a, b)
 }
 
 /// The front moved by the loss and the price, up to the cap.
-fn shifted(alloc: Global, front: &Front, moved: &str) -> Result<Front, Fail> {
+fn shifted(alloc: Global, front: &str, moved: &str) -> Result<Front, Fail> {
     let (by, cap) = moved.split_once(' ').ok_or("no cap")?;
     let (loss, price) = by.split_once(':').ok_or("no price")?;
     let (loss, price) = (loss.parse::<u64>()?, price.parse::<u32>()?);
     let cap = cap.parse::<u64>()?;
-    if !is_cheap(front) {
+    let front = front_of(alloc, front)?;
+    if !is_cheap(&front) {
         return Err(Fail::from("too dear"));
     }
     Ok(front.shift(alloc, loss, u64::from(price), cap)?)
 }
 
-fn both(alloc: Global, a: &Front, b: &Front) -> Result<Front, Fail> {
-    if !is_cheap(a) || !is_cheap(b) {
+fn either(alloc: Global, a: &str, b: &str) -> Result<Front, Fail> {
+    let a = front_of(alloc, a)?;
+    let b = front_of(alloc, b)?;
+    Ok(Front::either(alloc, &a, &b)?)
+}
+
+fn both(alloc: Global, a: &str, b: &str) -> Result<Front, Fail> {
+    let a = front_of(alloc, a)?;
+    let b = front_of(alloc, b)?;
+    if !is_cheap(&a) || !is_cheap(&b) {
         return Err(Fail::from("too dear"));
     }
-    sums_fit(a, b, 100, 100);
-    Ok(Front::both(alloc, a, b)?)
+    sums_fit(&a, &b, 100, 100);
+    Ok(Front::both(alloc, &a, &b)?)
 }
 
 /// Whether no point costs more than 100 cents, so that nothing overflows.
