@@ -16,7 +16,8 @@ is_plain (byte ∷ bytes) = not (byte == 45)
 
 -- the command of the words, or none where they are refused
 abbrev pub command_of : List (List ℕ) → Option Command
-command_of (first ∷ network ∷ []) = if bytes_eq first (codes "pick") && is_plain network then Some (pick network) else None
+command_of (first ∷ network ∷ []) =
+    if bytes_eq first (codes "pick") && is_plain network then Some (pick network) else None
 command_of words = None
 
 -- a file by what it is and by its name

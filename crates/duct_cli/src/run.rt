@@ -37,8 +37,8 @@ pub fn run<'w, F: Files<'w>, W: Sink>(
         → (command_of (map string_bytes words.now) ≡ None) × Appends (W.taken out.old) (W.taken out.new) words_line }
 
     // Each fault has its cause.
-    ensures read_fault { result ≡ 4
-        → Rose (F.fault_count files.old) (F.fault_count files.new) × Appends (W.taken out.old) (W.taken out.new) fault_line }
+    ensures read_fault { result ≡ 4 → Rose (F.fault_count files.old) (F.fault_count files.new)
+        × Appends (W.taken out.old) (W.taken out.new) fault_line }
     ensures write_fault { result ≡ 5 → Rose (W.fault_count out.old) (W.fault_count out.new)
         × AnswersPart (map string_bytes words.now) (F.held files.old)
         (Rose (F.fault_count files.old) (F.fault_count files.new)) (W.taken out.old) (W.taken out.new) }

@@ -8,8 +8,18 @@ use std::alloc::Global;
 use std::test::Fail;
 
 /// What the file `one.toml` holds.
-const NETWORK: &str =
-    "format = 1\nname = \"one\"\n[[fan]]\nname = \"f1\"\npressure = 60\ncost = 100\n[[section]]\nname = \"a\"\nside = \"supply\"\nsizes = [\"k1\"]\npairs = [[1, 0, 60, 500]]\n";
+const NETWORK: &str = r#"format = 1
+name = "one"
+[[fan]]
+name = "f1"
+pressure = 60
+cost = 100
+[[section]]
+name = "a"
+side = "supply"
+sizes = ["k1"]
+pairs = [[1, 0, 60, 500]]
+"#;
 
 /// The design of that network, where a bar stands for a line feed.
 const DESIGN: &str =

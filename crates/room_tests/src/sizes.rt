@@ -11,7 +11,12 @@ const WORDS: [(&str, &str); 3] = [
     (r"\H", "list,size,area,height,metre,join,step\n"),
     (
         r"\C",
-        "list,size,area,height,metre,join,step\nz,z1,20000,160,2000,500,300\na,a1,1001,2,3,4,5\nz,z2,50000,250,3000,800,400\na,a2,1000,1,0,0,0\n",
+        "list,size,area,height,metre,join,step
+z,z1,20000,160,2000,500,300
+a,a1,1001,2,3,4,5
+z,z2,50000,250,3000,800,400
+a,a2,1000,1,0,0,0
+",
     ),
     (r"\S", ",1000,1,0,0,0\n"),
 ];
