@@ -49,6 +49,7 @@ impl<'n> SectionFronts<'n> {
         self.net
     }
 
+    /// The section, from 0 in file order.
     pub fn section(&self) -> u32
         ensures { result ≡ self.now.section }
     {

@@ -25,7 +25,9 @@ use t_method::best_design;
 /// A status and a text.
 #[derive(Drop)]
 pub struct Answer {
+    /// The status that the program ends with (docs/FORMATS.md, "Statuses").
     pub status: u8,
+    /// The whole text that it writes.
     pub text: List<u8>,
 }
 
