@@ -4,7 +4,8 @@ use Rattle.std.proofs.lemmas.List.FromFn.{length-map-range_with_len, get_or-map-
 use Rattle.std.specs.Prelude.{◌==◌, All, IsTrue, filter, count_by}
 use Rattle.std.specs.List.Sorted.{IsStrictlyIncreasing}
 use Rattle.duct_units.specs.declared.side.Side.{Side}
-use Rattle.duct_definitions.specs.Tree.{Tree, IsTree, section_count, sections, neighbour, side, same_side, is_number, children, is_leaf, leaves, all_leaves, roots}
+use Rattle.duct_definitions.specs.Tree.{Tree, IsTree, section_count, sections, neighbour, side, is_number, children, is_leaf, leaves, all_leaves, roots}
+use Rattle.duct_units.specs.Side.{same_side}
 use Rattle.duct_definitions.proofs.SectionLists.{chosen_rising, chosen_below, chosen_pass, children_later, child_once, leaves_of_side}
 
 -- the list that stands at s among the lists of all sections

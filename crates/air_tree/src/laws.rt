@@ -1,7 +1,8 @@
 //! Laws of trees. Each is the contract of a call that has nothing to do.
 ghost use Rattle.std.specs.Prelude.{◌≡◌, ◌<◌, ◌==◌, ℕ, filter, count_by, if◌then◌else◌};
 ghost use Rattle.duct_units.specs.declared.side.Side.{Side};
-ghost use Rattle.duct_definitions.specs.Tree.{Tree, section_count, neighbour, side, same_side, is_number, children, leaves, all_leaves};
+ghost use Rattle.duct_definitions.specs.Tree.{Tree, section_count, neighbour, side, is_number, children, leaves, all_leaves};
+ghost use Rattle.duct_units.specs.Side.{same_side};
 
 /// Each section stands once among the children of its neighbour, and among no other's: a root among none.
 #[tactic(auto, using(crate::proofs::ListLaws::of_children))]

@@ -2,7 +2,8 @@
 //!
 //! Each takes one walk over the sections to count and one to fill, and memory for just what it holds.
 ghost use Rattle.std.specs.Prelude.{◌≡◌, ◌<◌, ◌≤◌, ◌&&◌, ◌==◌, [], length, map, slice_index_or, IfOk};
-ghost use Rattle.duct_definitions.specs.Tree.{Tree, side as side_of, same_side, is_root, all_leaves, roots};
+ghost use Rattle.duct_definitions.specs.Tree.{Tree, side as side_of, is_root, all_leaves, roots};
+ghost use Rattle.duct_units.specs.Side.{same_side};
 ghost use Rattle.air_tree.specs.TreeLists.{StandEarlier, lists_of, counts_of};
 
 use crate::rules::is_same;

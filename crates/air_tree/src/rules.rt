@@ -2,7 +2,8 @@
 ghost use Rattle.std.specs.Prelude.{◌≡◌, ◌<◌, ◌≤◌, length};
 ghost use Rattle.std.specs.List.{list_any, flat_map, range_with_len};
 ghost use Rattle.duct_units.specs.Rules.{first_broken};
-ghost use Rattle.duct_definitions.specs.Tree.{Tree, same_side, tree_rules, section_rules};
+ghost use Rattle.duct_definitions.specs.Tree.{Tree, tree_rules, section_rules};
+ghost use Rattle.duct_units.specs.Side.{same_side};
 
 use duct_definitions::MAX_SECTIONS;
 use duct_units::{Fault, Reason, Side};

@@ -12,7 +12,7 @@ use Rattle.duct_definitions.specs.declared.design.Pair.{Pair}
 use Rattle.duct_definitions.specs.declared.limits.TheConstants.{MAX_SECTIONS}
 use Rattle.duct_definitions.specs.Tree.{Tree, IsTree, section_count, sections, children, neighbour, is_number}
 use Rattle.duct_definitions.specs.Network.{Network, IsNetwork, IsBounded, size_count, columns, pair_at, cap}
-use Rattle.duct_definitions.specs.Least.{IsLeast}
+use Rattle.least_laws.specs.Least.{IsLeast}
 use Rattle.duct_definitions.proofs.TreeLaws.{few_sections}
 use Rattle.duct_units.specs.Prices.{lesser, both_of}
 use Rattle.least_laws.specs.Prices.{least_below, sum_of, with_pair}

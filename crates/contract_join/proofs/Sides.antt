@@ -9,9 +9,10 @@ use Rattle.pareto_front.specs.declared.point.Point.{Point}
 use Rattle.pareto_front.specs.Front.{cheapest}
 use Rattle.duct_units.specs.declared.side.Side.{Side}
 use Rattle.duct_definitions.specs.declared.limits.TheConstants.{MAX_SECTIONS}
-use Rattle.duct_definitions.specs.Tree.{Tree, IsTree, section_count, sections, neighbour, side, same_side, is_root, roots}
+use Rattle.duct_definitions.specs.Tree.{Tree, IsTree, section_count, sections, neighbour, side, is_root, roots}
+use Rattle.duct_units.specs.Side.{same_side}
 use Rattle.duct_definitions.specs.Network.{Network, IsNetwork, columns, columns_beside, cap}
-use Rattle.duct_definitions.specs.Least.{IsLeast}
+use Rattle.least_laws.specs.Least.{IsLeast}
 use Rattle.duct_definitions.proofs.SectionLists.{chosen_pass}
 use Rattle.duct_definitions.proofs.TreeLaws.{few_sections}
 use Rattle.least_laws.proofs.Leasts.{least_in-unique}

@@ -1,7 +1,7 @@
 //! The fronts of one section, which borrow their network.
 ghost use Rattle.std.specs.Prelude.{◌≡◌, ℕ, ◌<◌, ◌≤◌, ◌^◌, IfSome};
 ghost use Rattle.duct_definitions.specs.Network.{columns, cap};
-ghost use Rattle.duct_definitions.specs.Least.{IsLeast};
+ghost use Rattle.least_laws.specs.Least.{IsLeast};
 ghost use Rattle.pareto_front.specs.Front.{cheapest};
 ghost use Rattle.contract_join.specs.SectionFronts.{AreExact, NeedsWithin, CostsWithin, front_of, most_beyond};
 

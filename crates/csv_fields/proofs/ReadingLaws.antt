@@ -1,11 +1,11 @@
 -- How far a file was read, row by row.
 use Rattle.std.proofs.Common.{◌≡◌, ℕ, ◌+◌, List, [], ◌∷◌, Bool, true, false, cond, Result, Ok, Err, refl, sym, ap, ◌∙◌, subst}
-use Rattle.duct_units.specs.Rules.{Fails, first_broken, unless_refused}
+use Rattle.duct_units.specs.Rules.{Fails, first_broken, unless_refused, row_fault}
 use Rattle.duct_units.specs.declared.fault.Fault.{Fault}
 use Rattle.duct_units.specs.declared.fault.Reason.TheVariants.{Header}
 use Rattle.duct_units.specs.declared.fault.ReadError.{ReadError}
 use Rattle.duct_units.specs.declared.fault.ReadError.TheVariants.{Refused, NoMemory}
-use Rattle.file_definitions.specs.Rows.{Row, RowForm, row_fault, has_fields, reading, reading_from, TakesRow}
+use Rattle.file_definitions.specs.Rows.{Row, RowForm, has_fields, reading, reading_from, TakesRow}
 use Rattle.file_definitions.proofs.RowLaws.{reading-past, reading-here, reading-header, reading-other}
 use Rattle.csv_fields.specs.RowsLeft.{RowsLeft, IsNextRow, opened}
 

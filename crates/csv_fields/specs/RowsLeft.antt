@@ -3,7 +3,8 @@ use Rattle.std.specs.Prelude.{◌≡◌, ℕ, ◌+◌, Bool, List, [], ◌∷◌
 use Rattle.std.specs.Bool.{MatchBool}
 use Rattle.duct_units.specs.declared.fault.Fault.{Fault}
 use Rattle.duct_units.specs.declared.fault.Reason.TheVariants.{Header}
-use Rattle.file_definitions.specs.Rows.{Row, row_fault, has_fields}
+use Rattle.file_definitions.specs.Rows.{Row, has_fields}
+use Rattle.duct_units.specs.Rules.{row_fault}
 
 -- the number counts from 1, and is 0 before the first row
 pub record RowsLeft : Type 0 where

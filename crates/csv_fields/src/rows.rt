@@ -1,8 +1,8 @@
 //! The rows of a file, of which one is at hand and the others are left.
 ghost use Rattle.std.specs.Prelude.{◌≡◌, ◌≤◌, ◌<◌, ◌≤ℤ◌, ◌^◌, [], length, map, option_map, slice_get, IfSome, IfOk, OnErr, IsTrue};
 ghost use Rattle.duct_units.specs.Name.{is_name};
-ghost use Rattle.duct_units.specs.Rules.{Gives};
-ghost use Rattle.file_definitions.specs.Rows.{rows_of, row_fault, has_field, has_fields, name_field, number_field, integer_field};
+ghost use Rattle.duct_units.specs.Rules.{Gives, row_fault};
+ghost use Rattle.file_definitions.specs.Rows.{rows_of, has_field, has_fields, name_field, number_field, integer_field};
 ghost use Rattle.csv_fields.specs.RowsLeft.{Advances, opened};
 
 use csv::{ByteRecord, Reader, ReaderBuilder};

@@ -4,7 +4,8 @@ use Rattle.std.proofs.Math.Seq.{take-append_seam}
 use Rattle.std.specs.Prelude.{◌&&◌, slice_index}
 use Rattle.duct_units.specs.declared.side.Side.{Side}
 use Rattle.duct_definitions.specs.declared.design.Design.{Design}
-use Rattle.duct_definitions.specs.Tree.{Tree, IsTree, section_count, sections, neighbour, side, same_side, is_leaf, leaves}
+use Rattle.duct_definitions.specs.Tree.{Tree, IsTree, section_count, sections, neighbour, side, is_leaf, leaves}
+use Rattle.duct_units.specs.Side.{same_side}
 use Rattle.duct_definitions.specs.Network.{Network}
 use Rattle.duct_definitions.specs.Designs.{path_loss, worst}
 use Rattle.duct_definitions.specs.Dampers.{slack, slack_beside, damper}

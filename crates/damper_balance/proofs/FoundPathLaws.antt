@@ -10,7 +10,7 @@ use Rattle.duct_definitions.specs.Network.{Network, IsNetwork, fan_at}
 use Rattle.duct_definitions.specs.Designs.{Meets, pair_of, loss_of, path_loss}
 use Rattle.duct_definitions.specs.Dampers.{head, least_of, leaves_beyond, slack, slack_beside, damper}
 use Rattle.duct_definitions.proofs.TreeLaws.{earlier}
-use Rattle.design_laws.specs.Paths.{throttled_loss}
+use Rattle.duct_definitions.specs.Balance.{throttled_loss}
 use Rattle.design_laws.proofs.Among.{Among}
 use Rattle.design_laws.proofs.Ways.{along_way}
 use Rattle.design_laws.proofs.Beyond.{is_within}

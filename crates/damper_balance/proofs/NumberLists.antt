@@ -5,7 +5,8 @@ use Rattle.std.proofs.lemmas.List.{length-set}
 use Rattle.std.specs.Prelude.{filter, fold, slice_index}
 use Rattle.duct_units.specs.declared.side.Side.{Side}
 use Rattle.duct_units.specs.Prices.{lesser}
-use Rattle.duct_definitions.specs.Tree.{Tree, section_count, side, same_side, all_leaves, leaves}
+use Rattle.duct_definitions.specs.Tree.{Tree, section_count, side, all_leaves, leaves}
+use Rattle.duct_units.specs.Side.{same_side}
 use Rattle.duct_definitions.specs.Dampers.{least_of}
 use Rattle.duct_definitions.proofs.SectionLists.{leaves_of_side}
 use Rattle.design_laws.proofs.Among.{Among}

@@ -7,7 +7,7 @@ use Rattle.duct_definitions.specs.Tree.{section_count, neighbour, leaves, way}
 use Rattle.duct_definitions.specs.Network.{Network, fan_at}
 use Rattle.duct_definitions.specs.Designs.{pair_of, loss_of, path_loss, worst}
 use Rattle.duct_definitions.specs.Dampers.{head, slack, slack_beside, damper}
-use Rattle.design_laws.specs.Paths.{IsLeafOf}
+use Rattle.duct_definitions.specs.Balance.{IsLeafOf}
 use Rattle.damper_balance.specs.declared.dampers.Dampers.{Dampers}
 
 -- what a path does not lose of its side's head is the slack of its leaf

@@ -3,7 +3,8 @@
 ghost use Rattle.std.specs.Prelude.{◌≡◌, ◌≤◌, ◌<◌, ◌-◌, ℕ, length, slice_index, All, Some};
 ghost use Rattle.duct_units.specs.declared.side.Side.TheVariants.{Return};
 ghost use Rattle.duct_units.specs.Prices.{lesser};
-ghost use Rattle.duct_definitions.specs.Tree.{section_count, neighbour, side as side_of, same_side, leaves};
+ghost use Rattle.duct_definitions.specs.Tree.{section_count, neighbour, side as side_of, leaves};
+ghost use Rattle.duct_units.specs.Side.{same_side};
 ghost use Rattle.duct_definitions.specs.Designs.{Meets, pair_of, loss_of, path_loss, worst};
 ghost use Rattle.duct_definitions.specs.Dampers.{head, slack};
 ghost use Rattle.damper_balance.specs.SectionNumbers.{ListsEach, number_at, greatest_at, least_at};

@@ -3,7 +3,8 @@ use Rattle.std.proofs.Common.{◌≡◌, ℕ, suc, ◌<◌, ◌⊎◌, inl, inr,
 use Rattle.std.proofs.lemmas.Bool.{and_parts, and_from, eqb-true, eq-eqb, ltb-true}
 use Rattle.std.specs.Prelude.{◌&&◌}
 use Rattle.duct_units.specs.declared.side.Side.{Side}
-use Rattle.duct_definitions.specs.Tree.{Tree, IsTree, section_count, sections, neighbour, side, same_side, is_number, children, is_leaf, leaves, way, passes}
+use Rattle.duct_definitions.specs.Tree.{Tree, IsTree, section_count, sections, neighbour, side, is_number, children, is_leaf, leaves, way, passes}
+use Rattle.duct_units.specs.Side.{same_side}
 use Rattle.duct_definitions.specs.Dampers.{leaves_beyond}
 use Rattle.duct_definitions.proofs.TreeLaws.{earlier}
 use Rattle.design_laws.proofs.Among.{Among, Among-filter, Among-filtered, Among-range, list_any-among, among-list_any}

@@ -12,7 +12,7 @@ use Rattle.duct_definitions.specs.Network.{Network, IsNetwork, fan_at}
 use Rattle.duct_definitions.specs.Designs.{Meets, pair_of, loss_of, path_loss, worst}
 use Rattle.duct_definitions.specs.Dampers.{head, leaves_beyond, slack, slack_beside, damper}
 use Rattle.duct_definitions.proofs.TreeLaws.{earlier}
-use Rattle.design_laws.specs.Paths.{IsLeafOf, throttled_loss, PathsTakeHeads, PathsTakePressure, SupplyTakesPressure}
+use Rattle.duct_definitions.specs.Balance.{IsLeafOf, throttled_loss, PathsTakeHeads, PathsTakePressure, SupplyTakesPressure}
 use Rattle.design_laws.proofs.Among.{Among, le-max, least_of-le, least_of-reached}
 use Rattle.duct_definitions.proofs.WayLaws.{way-at_fan, way-beside}
 use Rattle.design_laws.proofs.Ways.{neighbour_side}

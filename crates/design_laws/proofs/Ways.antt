@@ -6,7 +6,8 @@ use Rattle.duct_units.specs.declared.side.Side.{Side}
 use Rattle.duct_units.specs.declared.side.Side.TheVariants.{Supply, Return}
 use Rattle.duct_units.specs.Rules.{Rule, first_broken, at_section}
 use Rattle.duct_units.proofs.RuleLaws.{rule_holds}
-use Rattle.duct_definitions.specs.Tree.{Tree, IsTree, section_count, neighbour, side, same_side, from_neighbour, way_within, way, is_before, is_on_side}
+use Rattle.duct_definitions.specs.Tree.{Tree, IsTree, section_count, neighbour, side, from_neighbour, way_within, way, is_before, is_on_side}
+use Rattle.duct_units.specs.Side.{same_side}
 use Rattle.duct_definitions.proofs.TreeLaws.{rules_hold, earlier}
 use Rattle.duct_definitions.proofs.WayLaws.{way-at_fan, way-beside}
 use Rattle.design_laws.proofs.Among.{Among}

@@ -6,7 +6,7 @@ ghost use Rattle.duct_definitions.specs.declared.design.Design.{Design};
 ghost use Rattle.duct_definitions.specs.Designs.{Fits, Meets};
 ghost use Rattle.duct_definitions.specs.Network.{Network, IsNetwork};
 ghost use Rattle.duct_definitions.specs.Order.{Before, IsBest, NoneMeets};
-ghost use Rattle.design_laws.specs.Paths.{PathsTakeHeads, PathsTakePressure, SupplyTakesPressure};
+ghost use Rattle.duct_definitions.specs.Balance.{PathsTakeHeads, IsBalanced};
 
 /// A network has a best design, or no design of it meets the rules.
 pub fn best_or_none()
@@ -23,11 +23,10 @@ pub fn designs_are_in_order()
 {}
 
 /// In a design that meets the rules losses and dampers balance every path: on each leaf's way they add to the head of
-/// its side, on a supply and a return path together to the fan's pressure, and without a return side on each supply
-/// path alone.
+/// its side. With one fan they add on a supply and a return path together to the fan's pressure, and without a return
+/// side on each supply path alone; with a return fan on each path to the pressure of its side's fan.
 #[tactic(auto, using(crate::proofs::Throttled::balance))]
 pub fn dampers_balance_every_path()
     ensures heads { (net : Network) (d : Design) → IsNetwork net → Meets net d → PathsTakeHeads net d }
-    ensures both { (net : Network) (d : Design) → IsNetwork net → Meets net d → PathsTakePressure net d }
-    ensures alone { (net : Network) (d : Design) → IsNetwork net → Meets net d → SupplyTakesPressure net d }
+    ensures pressures { (net : Network) (d : Design) → IsNetwork net → Meets net d → IsBalanced net d }
 {}

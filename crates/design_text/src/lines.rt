@@ -2,7 +2,8 @@
 ghost use Rattle.std.specs.Prelude.{◌≡◌, ◌++◌, [], ◌∷◌, codes, IfOk, OnOk};
 ghost use Rattle.std.specs.Fmt.{decimal};
 ghost use Rattle.std.specs.List.{flat_map};
-ghost use Rattle.duct_definitions.specs.DesignText.{text, heading, section_line, line};
+ghost use Rattle.duct_definitions.specs.DesignText.{text, heading, section_line};
+ghost use Rattle.duct_units.specs.Lines.{line};
 
 use duct_definitions::{Listed, ListedSection};
 use duct_units::{List, Name, NoMemory};

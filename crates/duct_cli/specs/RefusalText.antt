@@ -6,7 +6,7 @@ use Rattle.duct_units.specs.declared.fault.Part.{Part}
 use Rattle.duct_units.specs.declared.fault.Part.TheVariants as part
 use Rattle.duct_units.specs.declared.fault.Reason.{Reason}
 use Rattle.duct_units.specs.declared.fault.Reason.TheVariants as reason
-use Rattle.duct_definitions.specs.DesignText.{line}
+use Rattle.duct_units.specs.Lines.{line}
 use Rattle.duct_cli.specs.declared.words.FileKind.{FileKind}
 use Rattle.duct_cli.specs.declared.words.FileKind.TheVariants.{Network}
 

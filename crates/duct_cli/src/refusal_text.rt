@@ -1,6 +1,6 @@
 //! The lines of refusals and faults.
 ghost use Rattle.std.specs.Prelude.{◌≡◌, [], ◌∷◌, codes, IfOk};
-ghost use Rattle.duct_definitions.specs.DesignText.{line};
+ghost use Rattle.duct_units.specs.Lines.{line};
 ghost use Rattle.duct_cli.specs.RefusalText.{file_word, part_word, reason_word, refusal_line, words_line, fault_line};
 
 use crate::words::FileKind;

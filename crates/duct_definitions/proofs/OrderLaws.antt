@@ -1,9 +1,9 @@
 -- The order of designs is strict, so the best design is one.
-use Rattle.std.proofs.Common.{◌≡◌, ℕ, ◌<◌, ◌⊎◌, inl, inr, List, [], ◌∷◌, sym, arith}
+use Rattle.std.proofs.Common.{◌≡◌, ℕ, zero, suc, ◌+◌, ◌<◌, ◌⊎◌, inl, inr, List, [], ◌∷◌, Option, Some, None, refl, ap, sym, arith}
 use Rattle.duct_units.specs.declared.side.Side.TheVariants.{Supply}
 use Rattle.duct_definitions.specs.declared.design.Design.{Design}
 use Rattle.duct_definitions.specs.Network.{Network}
-use Rattle.duct_definitions.specs.Order.{Earlier, LessOr, Before, IsBest}
+use Rattle.duct_definitions.specs.Order.{Earlier, LessOr, turn_of, Before, IsBest}
 
 -- of two lists only one is earlier
 pub earlier_once : (xs ys : List ℕ) → Earlier xs ys → Earlier ys xs → ⊥
@@ -24,7 +24,7 @@ less_or_once m n Then Back once (inr same) (inr again) = once same.1 again.1
 -- of two designs only one comes before the other
 pub before_once : (net : Network) (d e : Design) → Before net d e → Before net e d → ⊥
 before_once net d e =
-    less_or_once _ _ _ _ (less_or_once _ _ _ _ (less_or_once _ _ _ _ (earlier_once d.sizes e.sizes)))
+    less_or_once _ _ _ _ (less_or_once _ _ _ _ (less_or_once _ _ _ _ (less_or_once _ _ _ _ (earlier_once d.sizes e.sizes))))
 
 pub best_is_one : (net : Network) (d e : Design) → IsBest net d → IsBest net e → d ≡ e
 best_is_one net d e best other =
@@ -32,3 +32,10 @@ best_is_one net d e best other =
       | inl same ↦ sym same
       | inr before ↦ elim (other.first d best.meets) [ inl same ↦ same | inr after ↦ absurd (before_once net d e before after) ]
     ]
+
+-- two return fans, or none, that have one turn are the same
+pub turn_of-inj : (o p : Option ℕ) → turn_of o ≡ turn_of p → o ≡ p
+turn_of-inj None None same = refl
+turn_of-inj None (Some j) same = absurd (omega arith)
+turn_of-inj (Some i) None same = absurd (omega arith)
+turn_of-inj (Some i) (Some j) same = let e : i ≡ j = omega arith in ap Some e

@@ -9,7 +9,8 @@ use Rattle.std.specs.Prelude.{◌==◌, ◌&&◌, filter, count_by, All, IsTrue}
 use Rattle.std.specs.List.{range_with_len}
 use Rattle.std.specs.List.Sorted.{IsStrictlyIncreasing}
 use Rattle.duct_units.specs.declared.side.Side.{Side}
-use Rattle.duct_definitions.specs.Tree.{Tree, IsTree, section_count, sections, neighbour, side, same_side, is_number, children, is_leaf, leaves, all_leaves}
+use Rattle.duct_definitions.specs.Tree.{Tree, IsTree, section_count, sections, neighbour, side, is_number, children, is_leaf, leaves, all_leaves}
+use Rattle.duct_units.specs.Side.{same_side}
 use Rattle.duct_definitions.proofs.TreeLaws.{earlier}
 
 range_rising : (a n : ℕ) → IsStrictlyIncreasing (range_with_len a n)

@@ -7,7 +7,8 @@ use Rattle.duct_units.specs.declared.side.Side.TheVariants.{Supply}
 use Rattle.duct_units.specs.declared.fault.Reason.TheVariants.{Empty, TooMany, NotBefore, OtherSide, NoSupply}
 use Rattle.duct_units.specs.Rules.{Rule, first_broken, or_else, at_file, at_section}
 use Rattle.duct_definitions.specs.declared.limits.TheConstants.{MAX_SECTIONS}
-use Rattle.duct_definitions.specs.Tree.{Tree, IsTree, section_count, sections, neighbour, side, same_side, is_before, is_on_side, section_rules}
+use Rattle.duct_definitions.specs.Tree.{Tree, IsTree, section_count, sections, neighbour, side, is_before, is_on_side, section_rules}
+use Rattle.duct_units.specs.Side.{same_side}
 use Rattle.duct_units.proofs.RuleLaws.{rule_holds, first_broken-append, both_none, none_broken}
 
 first_holds : (rule : Rule) (rules : List Rule) → first_broken (rule ∷ rules) ≡ None → (rule.holds ≡ true) × (first_broken rules ≡ None)

@@ -13,7 +13,7 @@ use Rattle.duct_definitions.specs.declared.design.Pair.{Pair}
 use Rattle.duct_definitions.specs.declared.design.NetFan.{NetFan}
 use Rattle.duct_definitions.specs.declared.limits.TheConstants.{MAX_SIZES, MAX_FANS, MAX_PRESSURE, MAX_FAN_COST, MAX_LOSS, MAX_PRICE}
 use Rattle.duct_definitions.specs.Tree.{Tree, IsTree, section_count, tree_rules}
-use Rattle.duct_definitions.specs.Network.{Network, AreNames, IsFan, IsBounded, IsSection, IsNetwork, sizes_of, size_count, pairs_of, columns}
+use Rattle.duct_definitions.specs.Network.{Network, AreNames, IsFan, AreFans, IsBounded, IsSection, IsNetwork, sizes_of, size_count, pairs_of, columns}
 use Rattle.duct_definitions.proofs.Below.{all_below, all_below-holds}
 
 -- each item that passes the test has the property
@@ -65,6 +65,19 @@ IsFan-tested fan passed =
       cost = leb-true fan.cost MAX_FAN_COST cost;
     }
 
+abbrev pub are_fans : List NetFan → Bool
+are_fans fans = are_names (map (λ fan. fan.name) fans) && (list_all is_fan fans && nat_le (length fans) MAX_FANS)
+
+AreFans-tested : (fans : List NetFan) → are_fans fans ≡ true → AreFans fans
+AreFans-tested fans passed =
+    let (names, rest) = and_parts _ _ passed in
+    let (bounds, few) = and_parts _ _ rest in
+    record {
+      names = AreNames-tested (map (λ fan. fan.name) fans) names;
+      bounds = All-tested IsFan is_fan IsFan-tested fans bounds;
+      few = leb-true (length fans) MAX_FANS few;
+    }
+
 abbrev pub is_bounded : Option Pair → Bool
 is_bounded None = true
 is_bounded (Some pair) = nat_le pair.loss MAX_LOSS && nat_le pair.price MAX_PRICE
@@ -113,35 +126,34 @@ IsTree-tested t passed =
 abbrev pub has_lists : Network → Bool
 has_lists net =
     (length net.names == section_count net.tree && length net.sizes == section_count net.tree)
-    && (length net.pairs == section_count net.tree && nat_le (length net.fans) MAX_FANS)
+    && length net.pairs == section_count net.tree
 
 abbrev pub has_names : Network → Bool
-has_names net = is_name net.name && (are_names net.names && are_names (map (λ fan. fan.name) net.fans))
+has_names net = is_name net.name && are_names net.names
 
 abbrev pub is_network : Network → Bool
 is_network net =
     (is_tree net.tree && (has_lists net && has_names net))
-    && (all_below (section_count net.tree) (is_section net) && list_all is_fan net.fans)
+    && (all_below (section_count net.tree) (is_section net) && (are_fans net.fans && are_fans net.return_fans))
 
 pub IsNetwork-tested : (net : Network) → is_network net ≡ true → IsNetwork net
 IsNetwork-tested net passed =
     let (whole, each) = and_parts _ _ passed in
     let (tree, texts) = and_parts _ _ whole in
     let (lists, names) = and_parts _ _ texts in
-    let (front, back) = and_parts _ _ lists in
-    let (name_count, size_lists) = and_parts _ _ front in
-    let (pair_lists, few_fans) = and_parts _ _ back in
-    let (name, others) = and_parts _ _ names in
-    let (sections, fans) = and_parts _ _ each in
+    let (counts, pair_lists) = and_parts _ _ lists in
+    let (name_count, size_lists) = and_parts _ _ counts in
+    let (name, section_names) = and_parts _ _ names in
+    let (sections, both_fans) = and_parts _ _ each in
+    let (fans, return_fans) = and_parts _ _ both_fans in
     record {
       name = name;
       tree = IsTree-tested net.tree tree;
-      names = AreNames-tested net.names (and_parts _ _ others).0;
+      names = AreNames-tested net.names section_names;
       name_count = eqb-true (length net.names) (section_count net.tree) name_count;
       size_lists = eqb-true (length net.sizes) (section_count net.tree) size_lists;
       pair_lists = eqb-true (length net.pairs) (section_count net.tree) pair_lists;
       sections = λ s within. IsSection-tested net s (all_below-holds (section_count net.tree) (is_section net) sections s within);
-      fan_names = AreNames-tested (map (λ fan. fan.name) net.fans) (and_parts _ _ others).1;
-      fans = All-tested IsFan is_fan IsFan-tested net.fans fans;
-      few_fans = leb-true (length net.fans) MAX_FANS few_fans;
+      fans = AreFans-tested net.fans fans;
+      return_fans = AreFans-tested net.return_fans return_fans;
     }

@@ -3,5 +3,5 @@ pub mod Network
 pub mod Designs
 pub mod Order
 pub mod Dampers
-pub mod Least
+pub mod Balance
 pub mod DesignText

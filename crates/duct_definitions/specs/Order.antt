@@ -1,5 +1,5 @@
 -- The order of designs, and the best of them.
-use Rattle.std.specs.Prelude.{◌≡◌, ℕ, ◌<◌, ◌⊎◌, List, ◌∷◌}
+use Rattle.std.specs.Prelude.{◌≡◌, ℕ, ◌+◌, ◌<◌, ◌⊎◌, List, ◌∷◌, Option, Some, None}
 use Rattle.duct_units.specs.declared.side.Side.TheVariants.{Supply}
 use Rattle.duct_definitions.specs.declared.design.Design.{Design}
 use Rattle.duct_definitions.specs.Network.{Network}
@@ -14,14 +14,20 @@ Earlier xs ys = ⊥
 abbrev pub LessOr : ℕ → ℕ → Type 0 → Type 0
 LessOr m n Then = (m < n) ⊎ ((m ≡ n) × Then)
 
--- less cost; then the earlier fan; then the less worst supply loss; then the earlier sizes, in file order of the
--- sections
+-- the turn of a return fan: first none, then the return fans in file order
+abbrev pub turn_of : Option ℕ → ℕ
+turn_of None = 0
+turn_of (Some i) = i + 1
+
+-- less cost; then the earlier fan; then no return fan, or the earlier one; then the less worst supply loss; then the
+-- earlier sizes, in file order of the sections
 abbrev pub Before : Network → Design → Design → Type 0
 Before net d e =
     LessOr (cost net d) (cost net e)
     (LessOr d.fan e.fan
+    (LessOr (turn_of d.back) (turn_of e.back)
     (LessOr (worst net d Supply) (worst net e Supply)
-    (Earlier d.sizes e.sizes)))
+    (Earlier d.sizes e.sizes))))
 
 -- the design meets the rules, and comes before every other one that does
 pub record IsBest (net : Network) (d : Design) : Type 0 where

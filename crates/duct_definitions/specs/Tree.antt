@@ -10,7 +10,8 @@ use Rattle.std.specs.Prelude.{◌≡◌, ℕ, zero, suc, ◌+◌, List, [], ◌�
 use Rattle.std.specs.List.{range_with_len, list_any, flat_map}
 use Rattle.duct_units.specs.declared.fault.Reason.TheVariants.{Empty, TooMany, NotBefore, OtherSide, NoSupply}
 use Rattle.duct_units.specs.declared.side.Side.{Side}
-use Rattle.duct_units.specs.declared.side.Side.TheVariants.{Supply, Return}
+use Rattle.duct_units.specs.declared.side.Side.TheVariants.{Supply}
+use Rattle.duct_units.specs.Side.{same_side}
 use Rattle.duct_units.specs.Rules.{Rule, at_file, at_section, first_broken}
 use Rattle.duct_definitions.specs.declared.limits.TheConstants.{MAX_SECTIONS}
 
@@ -31,11 +32,12 @@ neighbour t s = unwrap_or (slice_get t.neighbours s) None
 abbrev pub side : Tree → ℕ → Side
 side t s = unwrap_or (slice_get t.sides s) Supply
 
-abbrev pub same_side : Side → Side → Bool
-same_side Supply Supply = true
-same_side Return Return = true
-same_side a b = false
+-- a number of the neighbour, 0 at the fan
+abbrev pub at_neighbour : (ℕ → ℕ) → Option ℕ → ℕ
+at_neighbour number None = 0
+at_neighbour number (Some n) = number n
 
+-- the section that may be there is section s
 abbrev pub is_number : ℕ → Option ℕ → Bool
 is_number s None = false
 is_number s (Some n) = n == s

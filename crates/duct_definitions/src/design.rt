@@ -22,11 +22,13 @@ pub struct NetFan {
     pub cost: u64,
 }
 
-/// A choice of a fan, and of one size for each section.
+/// A choice of one fan, or of one on each side, and of one size for each section.
 #[derive(Debug, Drop)]
 pub struct Design {
     /// The number of the fan.
     pub fan: u32,
+    /// The number of the return side's own fan; None where the fan serves both sides.
+    pub back: Option<u32>,
     /// Of each section in order the number of its size, in the section's own list.
     pub sizes: List<u32>,
 }

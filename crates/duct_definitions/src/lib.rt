@@ -14,4 +14,4 @@ pub use design::{Design, NetFan, Pair};
 pub use limits::{
     MAX_FAN_COST, MAX_FANS, MAX_LOSS, MAX_PRESSURE, MAX_PRICE, MAX_SECTIONS, MAX_SIZES,
 };
-pub use listed::{Listed, ListedSection, RuleCount};
+pub use listed::{Listed, ListedFan, ListedSection, RuleCount};

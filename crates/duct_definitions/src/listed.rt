@@ -13,6 +13,8 @@ pub struct Listed {
     pub pressure: u64,
     /// What the fan costs with its energy, cents.
     pub fan_cost: u64,
+    /// The return side's own fan; None where the fan serves both sides.
+    pub back: Option<ListedFan>,
     /// The greatest loss of a supply path, dPa.
     pub supply_worst: u64,
     /// The pressure that each supply path has, dPa.
@@ -23,8 +25,19 @@ pub struct Listed {
     pub return_head: u64,
     /// The sections, in file order.
     pub sections: List<ListedSection>,
-    /// What the fan and all sections cost together, cents.
+    /// What the fans and all sections cost together, cents.
     pub total: u64,
+}
+
+/// The fields of a return fan's line in a printed design.
+#[derive(Clone, Copy)]
+pub struct ListedFan {
+    /// The name of the fan.
+    pub name: Name,
+    /// The pressure that the fan gives, dPa.
+    pub pressure: u64,
+    /// What the fan costs with its energy, cents.
+    pub cost: u64,
 }
 
 /// The fields of a section's line in a printed design.

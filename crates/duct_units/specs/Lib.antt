@@ -4,3 +4,6 @@ pub mod Whole
 pub mod Ceiling
 pub mod Rules
 pub mod Prices
+pub mod Side
+pub mod Lines
+pub mod Options

@@ -1,6 +1,6 @@
 //! Where an input is refused, and why.
 ghost use Rattle.std.specs.Prelude.{◌≡◌};
-ghost use Rattle.duct_units.specs.Rules.{file_fault, section_fault};
+ghost use Rattle.duct_units.specs.Rules.{file_fault, fan_fault, section_fault, row_fault, size_fault, table_fault, line_fault};
 ghost use Rattle.duct_units.specs.declared.fault.ReadError.TheVariants.{NoMemory as out_of_memory, Refused as refused};
 
 use std::alloc::{AllocError, AllocFailed};
@@ -108,12 +108,67 @@ impl Fault {
         }
     }
 
-    /// A fault of a section, by its place from 1.
+    /// A fault of the n-th fan, counted from 1.
+    pub fn of_fan(place: u32, reason: Reason) -> Fault
+        ensures { result ≡ fan_fault place reason }
+    {
+        Fault {
+            part: Part::Fan,
+            place,
+            reason,
+        }
+    }
+
+    /// A fault of the n-th section, counted from 1.
     pub fn of_section(place: u32, reason: Reason) -> Fault
         ensures { result ≡ section_fault place reason }
     {
         Fault {
             part: Part::Section,
+            place,
+            reason,
+        }
+    }
+
+    /// A fault of the n-th row, counted from 1.
+    pub fn of_row(place: u32, reason: Reason) -> Fault
+        ensures { result ≡ row_fault place reason }
+    {
+        Fault {
+            part: Part::Row,
+            place,
+            reason,
+        }
+    }
+
+    /// A fault of the n-th size, counted from 1.
+    pub fn of_size(place: u32, reason: Reason) -> Fault
+        ensures { result ≡ size_fault place reason }
+    {
+        Fault {
+            part: Part::Size,
+            place,
+            reason,
+        }
+    }
+
+    /// A fault of the n-th table, counted from 1.
+    pub fn of_table(place: u32, reason: Reason) -> Fault
+        ensures { result ≡ table_fault place reason }
+    {
+        Fault {
+            part: Part::Table,
+            place,
+            reason,
+        }
+    }
+
+    /// A fault of the n-th line, counted from 1.
+    pub fn of_line(place: u32, reason: Reason) -> Fault
+        ensures { result ≡ line_fault place reason }
+    {
+        Fault {
+            part: Part::Line,
             place,
             reason,
         }
@@ -178,7 +233,7 @@ mod tests {
     use super::*;
 
     #[test]
-    fn want_of_memory_is_no_refusal(rt: HostRuntime) {
+    fn running_out_of_memory_is_no_refusal(rt: HostRuntime) {
         let errors: [ReadError; 3] = [
             AllocError.into(),
             AllocFailed { value: 7u8 }.into(),

@@ -1,11 +1,11 @@
 -- What reading comes to, row by row.
 use Rattle.std.proofs.Common.{◌≡◌, ℕ, ◌+◌, List, ◌∷◌, ◌++◌, Bool, true, false, cond, Option, Some, None, Err, refl, ap, ◌∙◌, append_assoc, length}
 use Rattle.std.specs.Prelude.{◌==◌, is_some}
-use Rattle.duct_units.specs.Rules.{first_broken, or_else, unless_refused}
+use Rattle.duct_units.specs.Rules.{first_broken, or_else, unless_refused, row_fault}
 use Rattle.duct_units.proofs.RuleLaws.{first_broken-append}
 use Rattle.duct_units.specs.declared.fault.Fault.{Fault}
 use Rattle.duct_units.specs.declared.fault.Reason.TheVariants.{Header, Columns, Field}
-use Rattle.file_definitions.specs.Rows.{Row, RowForm, row_fault, has_fields, row_rules, rules_from, said_from, reading, reading_from, with_row, own_rules}
+use Rattle.file_definitions.specs.Rows.{Row, RowForm, has_fields, row_rules, rules_from, said_from, reading, reading_from, with_row, own_rules}
 
 -- the rules of the first row, and then the others
 row_first : {S A : Type 0} (form : RowForm S A) (n : ℕ) (s : S) (row : Row) (rows : List Row)

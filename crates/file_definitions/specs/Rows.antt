@@ -12,9 +12,8 @@ use Rattle.std.specs.Str.{bytes_eq}
 use Rattle.csv.specs.Reading.{default_config, records, strip_bom}
 use Rattle.duct_units.specs.Name.{name_of}
 use Rattle.duct_units.specs.Whole.{whole_of}
-use Rattle.duct_units.specs.Rules.{Rule, first_broken, unless_refused}
+use Rattle.duct_units.specs.Rules.{Rule, first_broken, unless_refused, row_fault, at_row}
 use Rattle.duct_units.specs.declared.fault.Fault.{Fault}
-use Rattle.duct_units.specs.declared.fault.Part.TheVariants as part
 use Rattle.duct_units.specs.declared.fault.Reason.{Reason}
 use Rattle.duct_units.specs.declared.fault.Reason.TheVariants.{Header, Columns, Field}
 use Rattle.duct_units.specs.declared.fault.ReadError.{ReadError}
@@ -50,22 +49,6 @@ abbrev pub has_fields : Row → Row → Bool
 has_fields fields row = pointwise bytes_eq row fields
 
 -- ---- rules
-
--- a fault of the n-th row, counted from 1
-abbrev pub row_fault : ℕ → Reason → Fault
-row_fault n reason = record { part = part.Row; place = n; reason = reason }
-
--- a rule of the n-th row, counted from 1
-abbrev pub at_row : ℕ → Bool → Reason → Rule
-at_row n holds reason = record { holds = holds; fault = row_fault n reason }
-
--- a fault of the n-th size, counted from 1
-abbrev pub size_fault : ℕ → Reason → Fault
-size_fault n reason = record { part = part.Size; place = n; reason = reason }
-
--- a rule of the n-th size, counted from 1
-abbrev pub at_size : ℕ → Bool → Reason → Rule
-at_size n holds reason = record { holds = holds; fault = size_fault n reason }
 
 -- what a kind of file asks of its rows
 pub record RowForm (S A : Type 0) : Type 0 where

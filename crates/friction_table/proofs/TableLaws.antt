@@ -6,10 +6,9 @@ use Rattle.std.specs.List.{position_from}
 use Rattle.std.proofs.lemmas.Bool.Decides.{nat_tests}
 use Rattle.std.proofs.lemmas.List.Sums.{sum_by-le}
 use Rattle.std.proofs.lemmas.List.Folds.{sum_by-replicate}
-use Rattle.duct_units.specs.Rules.{first_broken}
+use Rattle.duct_units.specs.Rules.{first_broken, size_fault}
 use Rattle.duct_units.specs.declared.fault.Fault.{Fault}
 use Rattle.duct_units.specs.declared.fault.Reason.TheVariants.{Missing}
-use Rattle.file_definitions.specs.Rows.{size_fault}
 use Rattle.friction_table.specs.Reading.{row_of_each}
 use Rattle.std.proofs.lemmas.List.Elements.{All-push}
 use Rattle.friction_table.specs.declared.row.FlowRate.{FlowRate}

@@ -1,12 +1,9 @@
 -- What a row of a friction file says.
 use Rattle.std.specs.Prelude.{Option, Some, option_and_then}
+use Rattle.duct_units.specs.Options.{◌>>=◌}
 use Rattle.file_definitions.specs.Rows.{Row, name_field, number_field}
 use Rattle.friction_table.specs.declared.limits.TheConstants.{MAX_FLOW, MAX_RATE}
 use Rattle.friction_table.specs.declared.row.FrictionRow.{FrictionRow}
-
-infixl 10 ◌>>=◌
-abbrev pub ◌>>=◌ : {A B : Type 0} → Option A → (A → Option B) → Option B
-o >>= f = option_and_then f o
 
 -- none where a field isn't of its form or lies out of its bound
 abbrev pub row_of_fields : Row → Option FrictionRow

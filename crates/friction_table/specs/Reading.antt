@@ -2,8 +2,8 @@
 use Rattle.std.specs.Prelude.{◌≡◌, ◌≤◌, All, sum_by, ℕ, ◌+◌, nat_lt, false, List, [], ◌∷◌, ◌++◌, length, replicate, codes, Option, Some, None, slice_get, slice_set, unwrap_or, Result}
 use Rattle.duct_units.specs.declared.fault.Fault.{Fault}
 use Rattle.duct_units.specs.declared.fault.Reason.TheVariants.{UnknownSize, TooMany, Order, Missing}
-use Rattle.duct_units.specs.Rules.{Rule}
-use Rattle.file_definitions.specs.Rows.{Row, RowForm, rows_of, at_row, at_size, size_fault, reading}
+use Rattle.duct_units.specs.Rules.{Rule, at_row, at_size, size_fault}
+use Rattle.file_definitions.specs.Rows.{Row, RowForm, rows_of, reading}
 use Rattle.name_index.specs.Places.{place_of}
 use Rattle.size_catalogue.specs.Catalogue.{Catalogue, names_of}
 use Rattle.friction_table.specs.declared.limits.TheConstants.{MAX_ROWS}

@@ -1,7 +1,6 @@
 //! Reading a friction file.
 ghost use Rattle.std.specs.Prelude.{◌≡◌, ◌+◌, ◌<◌, length, IfOk};
-ghost use Rattle.duct_units.specs.Rules.{Gives};
-ghost use Rattle.file_definitions.specs.Rows.{size_fault};
+ghost use Rattle.duct_units.specs.Rules.{Gives, size_fault};
 ghost use Rattle.friction_table.specs.Reading.{friction_of};
 
 use crate::friction::Friction;

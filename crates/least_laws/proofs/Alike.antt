@@ -4,7 +4,7 @@ use Rattle.std.specs.Prelude.{slice_get, unwrap_or}
 use Rattle.duct_definitions.specs.declared.design.Pair.{Pair}
 use Rattle.duct_definitions.specs.Tree.{Tree, IsTree, section_count, neighbour}
 use Rattle.duct_definitions.specs.Network.{Network, size_count, columns, columns_beside, pairs_of, pair_at}
-use Rattle.duct_definitions.specs.Least.{IsLeast}
+use Rattle.least_laws.specs.Least.{IsLeast}
 use Rattle.least_laws.specs.SamePairs.{AgreeBeyond}
 use Rattle.least_laws.proofs.Ducts.{Ducts, IsLeastSum}
 use Rattle.least_laws.proofs.Unique.{with_pairs, least-moves, AgreeBeyond as AgreeInPairs}

@@ -4,7 +4,8 @@ use Rattle.std.proofs.Common.{◌≡◌, ℕ, ◌-◌, ◌<◌, ◌≤◌, true,
 use Rattle.std.proofs.lemmas.Bool.{eq-eqb, lt-ltb, and_from}
 use Rattle.std.specs.Prelude.{IsSome, is_some, is_none, ◌&&◌}
 use Rattle.duct_units.specs.declared.side.Side.{Side}
-use Rattle.duct_definitions.specs.Tree.{Tree, IsTree, section_count, sections, neighbour, side, same_side, is_number, is_root, children, roots}
+use Rattle.duct_definitions.specs.Tree.{Tree, IsTree, section_count, sections, neighbour, side, is_number, is_root, children, roots}
+use Rattle.duct_units.specs.Side.{same_side}
 use Rattle.duct_definitions.specs.Network.{Network, size_count, columns, pair_at}
 use Rattle.duct_definitions.specs.Designs.{loss_of}
 use Rattle.design_laws.proofs.Among.{Among, Among-filter, Among-range}

@@ -11,7 +11,7 @@ use Rattle.duct_definitions.specs.Tree.{section_count, sections, passes}
 use Rattle.duct_definitions.specs.Network.{Network, IsNetwork, IsBounded, columns, pairs_of, pair_at}
 use Rattle.duct_definitions.specs.Designs.{price_of}
 use Rattle.duct_definitions.specs.Dampers.{leaves_beyond}
-use Rattle.duct_definitions.specs.Least.{sections_beyond, pair_in, loss_to, price_beyond, IsChoice, IsLeast}
+use Rattle.least_laws.specs.Least.{sections_beyond, pair_in, loss_to, price_beyond, IsChoice, IsLeast}
 use Rattle.least_laws.proofs.TreeLists.{All-among, All-from_among, All-from_beyond}
 
 -- a choice within a budget is one within a greater budget

@@ -8,7 +8,8 @@ use Rattle.std.specs.List.{range_with_len}
 use Rattle.duct_units.specs.declared.side.Side.{Side}
 use Rattle.duct_units.specs.declared.side.Side.TheVariants.{Supply, Return}
 use Rattle.duct_definitions.specs.declared.design.Design.{Design}
-use Rattle.duct_definitions.specs.Tree.{Tree, IsTree, section_count, sections, neighbour, side, leaves, is_leaf, way, same_side}
+use Rattle.duct_definitions.specs.Tree.{Tree, IsTree, section_count, sections, neighbour, side, leaves, is_leaf, way}
+use Rattle.duct_units.specs.Side.{same_side}
 use Rattle.duct_definitions.specs.Network.{Network, pair_at, fan_at}
 use Rattle.duct_definitions.specs.Designs.{Meets, size_beside, pair_of, loss_of, price_of, path_loss, worst, cost}
 use Rattle.design_laws.proofs.Among.{Among, Among-filtered, le-max}
@@ -16,7 +17,7 @@ use Rattle.duct_definitions.proofs.WayLaws.{way-at_fan, way-beside}
 use Rattle.design_laws.proofs.Ways.{neighbour_side, same_side-true}
 use Rattle.design_laws.proofs.Beyond.{Among-leaves, is_within}
 use Rattle.std.proofs.lemmas.Bool.{and_parts}
-use Rattle.tree_sums.specs.Route.{Fan, same_end, goes_by}
+use Rattle.tree_sums.specs.Route.{Fan, goes_by}
 use Rattle.tree_sums.specs.Sums.{along, total, gated}
 use Rattle.tree_sums.proofs.Climb.{climb}
 use Rattle.tree_sums.proofs.Places.{same-refl}
@@ -48,17 +49,17 @@ price-pair_of net d = fun_ext (λ s. ap price_of (chosen-pair_of net d s))
 
 module _ (t : Tree) (tree : IsTree t) where
   -- a section's route goes by the section's side of the fan
-  pub goes_by-side : (x : Side) (s : ℕ) → goes_by (next_in t) (Fan x) s ≡ same_end x (side t s)
+  pub goes_by-side : (x : Side) (s : ℕ) → goes_by (next_in t) (Fan x) s ≡ same_side x (side t s)
   goes_by-side x =
-      climb (next_in t) (next_in-falls t tree) (λ s. goes_by (next_in t) (Fan x) s ≡ same_end x (side t s))
+      climb (next_in t) (next_in-falls t tree) (λ s. goes_by (next_in t) (Fan x) s ≡ same_side x (side t s))
       (λ s y is.
       goes_by-fan (next_in t) (next_in-falls t tree) s y is (Fan x)
-      ∙ ap (same_end x) (sym (neighbour-fan t s y is).1))
+      ∙ ap (same_side x) (sym (neighbour-fan t s y is).1))
       (λ s n is rest.
       let next = neighbour-at t s n is in
       goes_by-at (next_in t) (next_in-falls t tree) s n is (Fan x)
       ∙ rest
-      ∙ ap (same_end x) (neighbour_side t s n tree (neighbour-within t s n next) next))
+      ∙ ap (same_side x) (neighbour_side t s n tree (neighbour-within t s n next) next))
 
   -- the sum over the whole way of a section
   pub sum_by-whole_way : (w : ℕ → ℕ) (x : Side) (s : ℕ) → sum_by w (way t s) ≡ along (next_in t) w (Fan x) s
@@ -75,13 +76,13 @@ module _ (t : Tree) (tree : IsTree t) where
       ∙ ap (λ z. w s + z) rest
       ∙ sym (along-on (next_in t) (next_in-falls t tree) w (Fan x) s n is (λ apart. cc apart)))
 
-same_end-equal : (x y : Side) → same_end x y ≡ true → x ≡ y
+same_end-equal : (x y : Side) → same_side x y ≡ true → x ≡ y
 same_end-equal Supply Supply is = refl
 same_end-equal Return Return is = refl
 same_end-equal Supply Return is = cc
 same_end-equal Return Supply is = cc
 
-gated-sides : (x : Side) (n : ℕ) → gated (same_end Supply x) n + gated (same_end Return x) n ≡ n
+gated-sides : (x : Side) (n : ℕ) → gated (same_side Supply x) n + gated (same_side Return x) n ≡ n
 gated-sides Supply n = omega arith
 gated-sides Return n = omega arith
 
@@ -117,7 +118,7 @@ module _ (net : Network) (tree : IsTree net.tree) (d : Design) where
       let split : total w n ≡ total (λ s. part Supply s + part Return s) n =
       total-cong w (λ s. part Supply s + part Return s) n (λ s less.
       sym (ap (λ b. gated b (w s) + part Return s) (goes_by-side net.tree tree Supply s)
-      ∙ ap (λ b. gated (same_end Supply (side net.tree s)) (w s) + gated b (w s)) (goes_by-side net.tree tree Return s)
+      ∙ ap (λ b. gated (same_side Supply (side net.tree s)) (w s) + gated b (w s)) (goes_by-side net.tree tree Return s)
       ∙ gated-sides (side net.tree s) (w s))) in
       ap (λ z. z + (fan_at net d.fan).cost) (whole ∙ split ∙ total-add (part Supply) (part Return) n)
 
@@ -154,7 +155,7 @@ module _ (net : Network) (tree : IsTree net.tree) (d : Design) where
       let within = is_within net.tree leaf is in
       let by : goes_by (next_in net.tree) (Fan x) leaf ≡ true =
       goes_by-side net.tree tree x leaf
-      ∙ ap (same_end x) (same_side-true (side net.tree leaf) x on_side)
+      ∙ ap (same_side x) (same_side-true (side net.tree leaf) x on_side)
       ∙ same-refl (Fan x) in
       let most = sizing.within leaf within (leaf-end net.tree leaf is) by in
       let same = path_loss-along x leaf in

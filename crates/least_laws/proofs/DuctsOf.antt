@@ -4,10 +4,10 @@ use Rattle.std.proofs.Math.Path.{fun_ext}
 use Rattle.std.specs.Prelude.{IsSome, is_some}
 use Rattle.duct_units.specs.declared.side.Side.{Side}
 use Rattle.duct_definitions.specs.declared.design.Pair.{Pair}
-use Rattle.duct_definitions.specs.Tree.{IsTree, section_count, neighbour, side, children, passes}
+use Rattle.duct_definitions.specs.Tree.{IsTree, section_count, neighbour, side, children, passes, at_neighbour}
 use Rattle.duct_definitions.specs.Network.{Network, size_count, columns, columns_beside, pair_at}
 use Rattle.duct_definitions.specs.Designs.{loss_of, price_of}
-use Rattle.duct_definitions.specs.Least.{size_next, pair_in, loss_to, price_beyond, IsChoice, IsLeast}
+use Rattle.least_laws.specs.Least.{pair_in, loss_to, price_beyond, IsChoice, IsLeast}
 use Rattle.tree_sums.specs.Route.{At, goes_by}
 use Rattle.tree_sums.specs.Sums.{along, gated, beyond}
 use Rattle.tree_sums.proofs.Totals.{total-cong}
@@ -26,7 +26,7 @@ ducts_of net = record {
   pair = pair_at net;
 }
 
-size_at-place : (f : ℕ → ℕ) (x : Side) (o : Option ℕ) → size_at f (place_of x o) ≡ size_next f o
+size_at-place : (f : ℕ → ℕ) (x : Side) (o : Option ℕ) → size_at f (place_of x o) ≡ at_neighbour f o
 size_at-place f x None = refl
 size_at-place f x (Some n) = refl
 

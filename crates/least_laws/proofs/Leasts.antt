@@ -2,7 +2,7 @@
 use Rattle.std.proofs.Common.{◌≡◌, ℕ, zero, suc, ◌+◌, ◌<◌, ◌≤◌, refl, arith, ap, sym, subst, Option, Some, None}
 use Rattle.duct_definitions.specs.Tree.{IsTree, section_count}
 use Rattle.duct_definitions.specs.Network.{Network, columns}
-use Rattle.duct_definitions.specs.Least.{IsLeast}
+use Rattle.least_laws.specs.Least.{IsLeast}
 use Rattle.duct_definitions.proofs.TreeLaws.{earlier}
 use Rattle.least_laws.specs.LeastIn.{least_from, least_within, least_in, AreLeasts}
 use Rattle.least_laws.proofs.Theorem.{least-step}

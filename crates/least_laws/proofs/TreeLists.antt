@@ -6,12 +6,13 @@ use Rattle.std.specs.Prelude.{◌&&◌, ◌==◌, All, filter, is_none}
 use Rattle.std.specs.List.{range_with_len}
 use Rattle.duct_units.specs.declared.side.Side.{Side}
 use Rattle.duct_units.specs.declared.side.Side.TheVariants.{Supply, Return}
-use Rattle.duct_definitions.specs.Tree.{Tree, IsTree, section_count, sections, neighbour, side, same_side, is_number, children, is_leaf, is_root, roots, way, passes}
+use Rattle.duct_definitions.specs.Tree.{Tree, IsTree, section_count, sections, neighbour, side, is_number, children, is_leaf, is_root, roots, way, passes}
+use Rattle.duct_units.specs.Side.{same_side}
 use Rattle.duct_definitions.specs.Dampers.{leaves_beyond}
-use Rattle.duct_definitions.specs.Least.{sections_beyond}
+use Rattle.least_laws.specs.Least.{sections_beyond}
 use Rattle.design_laws.proofs.Among.{Among, Among-filter, Among-filtered, Among-range, below-range, list_any-among, among-list_any}
 use Rattle.design_laws.proofs.Beyond.{no_item, IsBeyond-from, IsBeyond-way, Among-leaves_beyond, is_within}
-use Rattle.tree_sums.specs.Route.{Fan, At, same_end, same, goes_by}
+use Rattle.tree_sums.specs.Route.{Fan, At, same, goes_by}
 use Rattle.tree_sums.proofs.Places.{same-true, not-true}
 use Rattle.least_laws.proofs.TreePlaces.{place_of, next_in, neighbour-at, passes-goes_by, filter-range_last}
 
@@ -51,7 +52,7 @@ children-same t s =
     filter-range_same (λ c. is_number s (neighbour t c)) (λ c. same (next_in t c) (At s)) (section_count t)
     (λ c less. is_number-same s (side t c) (neighbour t c))
 
-same_side-end : (x y : Side) → same_side x y ≡ same_end x y
+same_side-end : (x y : Side) → same_side x y ≡ same_side x y
 same_side-end Supply Supply = refl
 same_side-end Supply Return = refl
 same_side-end Return Supply = refl

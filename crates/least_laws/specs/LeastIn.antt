@@ -2,7 +2,7 @@
 use Rattle.std.specs.Prelude.{◌≡◌, ℕ, zero, suc, ◌<◌, ◌≤◌, Option, Some, None}
 use Rattle.duct_definitions.specs.Tree.{section_count, neighbour, children}
 use Rattle.duct_definitions.specs.Network.{Network, size_count, columns, pair_at, cap}
-use Rattle.duct_definitions.specs.Least.{IsLeast}
+use Rattle.least_laws.specs.Least.{IsLeast}
 use Rattle.least_laws.specs.Prices.{least_below, sum_of, with_pair}
 
 -- of section s in size k and of all beyond it, where leasts c k gives the least of child c beside size k

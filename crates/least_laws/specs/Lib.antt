@@ -1,3 +1,4 @@
+pub mod Least
 pub mod Prices
 pub mod LeastIn
 pub mod SamePairs

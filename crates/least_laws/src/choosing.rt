@@ -13,15 +13,16 @@ ghost use Rattle.least_laws.specs.Prices.{sum_of};
 ghost use Rattle.least_laws.specs.LeastIn.{least_in, IsExact};
 ghost use Rattle.least_laws.specs.Choosing.{side_least, budget_of, cost_at, IsOffered, IsChosen, Attains, IsDescent};
 
-/// With the first fan and then the least supply budget of the least cost, the design that takes at each section the
-/// first size with the least price, from the fan outwards, is the best, and has that cost.
+/// With the first fan, then the first turn of a return fan, and then the least supply budget of the least cost, the
+/// design that takes at each section the first size with the least price, from the fan outwards, is the best, and has
+/// that cost.
 pub fn descent_is_best()
     ensures best { (net : Network) → IsTree net.tree → (d : Design) (budget price : ℕ)
-        → IsChosen net (side_least net Supply) (side_least net Return) d.fan budget price
-        → (left : ℕ → ℕ) → IsDescent net (budget_of net d.fan budget) left d → IsBest net d }
+        → IsChosen net (side_least net Supply) (side_least net Return) d.fan d.back budget price
+        → (left : ℕ → ℕ) → IsDescent net (budget_of net d.fan d.back budget) left d → IsBest net d }
     ensures cost { (net : Network) → IsTree net.tree → (d : Design) (budget price : ℕ)
-        → IsChosen net (side_least net Supply) (side_least net Return) d.fan budget price
-        → (left : ℕ → ℕ) → IsDescent net (budget_of net d.fan budget) left d → cost net d ≡ price }
+        → IsChosen net (side_least net Supply) (side_least net Return) d.fan d.back budget price
+        → (left : ℕ → ℕ) → IsDescent net (budget_of net d.fan d.back budget) left d → cost net d ≡ price }
 {}
 
 /// The exact prices of a side's roots add to the least of the side, which is at most the greatest price for each
@@ -36,26 +37,26 @@ pub fn side_adds_its_roots()
         (λ price. price ≤ length (roots net.tree x) * (section_count net.tree * MAX_PRICE)) }
 {}
 
-/// Where no fan with any supply budget has a cost, no design meets the rules.
+/// Where no fans with any supply budget have a cost, no design meets the rules.
 pub fn no_cost_no_design()
     ensures { (net : Network) → IsTree net.tree
-        → ((fan budget : ℕ) → IsOffered net fan budget
-        → cost_at net (side_least net Supply) (side_least net Return) fan budget ≡ None)
+        → ((fan : ℕ) (own : Option ℕ) (budget : ℕ) → IsOffered net fan own budget
+        → cost_at net (side_least net Supply) (side_least net Return) fan own budget ≡ None)
         → NoneMeets net }
 {}
 
-/// The cost with a fan and a supply budget, and what is chosen, depend on the prices of both sides within budgets up
+/// The cost with fans and a supply budget, and what is chosen, depend on the prices of both sides within budgets up
 /// to the greatest fan pressure alone.
 pub fn choice_depends_on_budgets_up_to_cap()
     ensures cost { (net : Network) (supply other back again : ℕ → Option ℕ)
         → ((b : ℕ) → b ≤ cap net → supply b ≡ other b)
         → ((b : ℕ) → b ≤ cap net → back b ≡ again b)
-        → (fan budget : ℕ) → IsOffered net fan budget
-        → cost_at net supply back fan budget ≡ cost_at net other again fan budget }
+        → (fan : ℕ) (own : Option ℕ) (budget : ℕ) → IsOffered net fan own budget
+        → cost_at net supply back fan own budget ≡ cost_at net other again fan own budget }
     ensures chosen { (net : Network) (supply other back again : ℕ → Option ℕ)
         → ((b : ℕ) → b ≤ cap net → supply b ≡ other b)
-        → ((b : ℕ) → b ≤ cap net → back b ≡ again b) → (fan budget price : ℕ)
-        → IsChosen net supply back fan budget price → IsChosen net other again fan budget price }
+        → ((b : ℕ) → b ≤ cap net → back b ≡ again b) → (fan : ℕ) (own : Option ℕ) (budget price : ℕ)
+        → IsChosen net supply back fan own budget price → IsChosen net other again fan own budget price }
 {}
 
 /// The way outwards goes on: the leasts of a side's roots are there where the side's is; some size attains a least

@@ -4,7 +4,7 @@ ghost use Rattle.std.specs.Prelude.{◌≡◌, ◌<◌, ◌≤◌, ◌*◌, ℕ,
 ghost use Rattle.duct_definitions.specs.declared.limits.TheConstants.{MAX_PRICE};
 ghost use Rattle.duct_definitions.specs.Tree.{IsTree, section_count};
 ghost use Rattle.duct_definitions.specs.Network.{Network, IsNetwork, columns, cap};
-ghost use Rattle.duct_definitions.specs.Least.{IsLeast};
+ghost use Rattle.least_laws.specs.Least.{IsLeast};
 ghost use Rattle.least_laws.specs.LeastIn.{least_from, least_in, AreLeasts, IsExact};
 ghost use Rattle.least_laws.specs.SamePairs.{AgreeBeyond};
 

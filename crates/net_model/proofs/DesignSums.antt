@@ -9,7 +9,8 @@ use Rattle.std.specs.List.{range_with_len}
 use Rattle.duct_units.specs.declared.side.Side.{Side}
 use Rattle.duct_definitions.specs.declared.design.Design.{Design}
 use Rattle.duct_definitions.specs.declared.limits.TheConstants.{MAX_SECTIONS, MAX_LOSS, MAX_PRICE, MAX_FAN_COST}
-use Rattle.duct_definitions.specs.Tree.{Tree, IsTree, section_count, sections, neighbour, side, same_side, is_leaf, all_leaves, leaves, from_neighbour, way}
+use Rattle.duct_definitions.specs.Tree.{Tree, IsTree, section_count, sections, neighbour, side, is_leaf, all_leaves, leaves, from_neighbour, way}
+use Rattle.duct_units.specs.Side.{same_side}
 use Rattle.duct_definitions.specs.Network.{Network, IsNetwork, IsFan, fan_at}
 use Rattle.duct_definitions.specs.Designs.{pair_of, loss_of, price_of, path_loss, worst, cost}
 use Rattle.duct_definitions.proofs.SectionLists.{leaves_of_side}

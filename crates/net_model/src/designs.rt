@@ -3,7 +3,8 @@
 //! Losses and pressures are in dPa, prices and costs in cents (docs/RULES.md, "Which designs meet the rules"
 //! and "Cost and order"). No call takes memory.
 ghost use Rattle.std.specs.Prelude.{◌≡◌, ◌+◌, ◌*◌, ◌<◌, ◌≤◌, ◌↔◌, ℕ, IsTrue, IsSome};
-ghost use Rattle.duct_definitions.specs.Tree.{section_count, neighbour, side as side_of, same_side, is_leaf};
+ghost use Rattle.duct_definitions.specs.Tree.{section_count, neighbour, side as side_of, is_leaf};
+ghost use Rattle.duct_units.specs.Side.{same_side};
 ghost use Rattle.duct_definitions.specs.Network.{IsBounded, columns};
 ghost use Rattle.duct_definitions.specs.Designs.{Fits, Meets, size_beside, pair_of, loss_of, price_of, path_loss, worst, cost};
 

@@ -3,9 +3,9 @@ use Rattle.std.proofs.Common.{◌≡◌, ℕ, List, [], ◌∷◌, map, Bool, no
 use Rattle.toml.specs.Data.{Members}
 use Rattle.duct_units.specs.declared.fault.Fault.{Fault}
 use Rattle.duct_units.specs.declared.fault.Reason.TheVariants.{Twice}
-use Rattle.duct_units.specs.Rules.{Rule, section_fault}
+use Rattle.duct_units.specs.Rules.{Rule, section_fault, fan_fault}
 use Rattle.name_index.specs.Places.{is_among}
-use Rattle.network_file.specs.FanTables.{fan_of, fan_names, fan_fault}
+use Rattle.network_file.specs.FanTables.{fan_of, fan_names}
 use Rattle.network_file.specs.SectionTables.{SectionEntry, entry_of, table_names}
 use Rattle.network_file.specs.Neighbours.{entry_names, known_rules}
 

@@ -10,7 +10,7 @@ use Rattle.std.proofs.lemmas.List.Elements.{All-from_get_or}
 use Rattle.toml.specs.Data.{Data, Members, get_member, as_integer, as_str}
 use Rattle.duct_units.specs.declared.fault.Fault.{Fault}
 use Rattle.duct_units.specs.Name.{is_name, name_of}
-use Rattle.duct_units.specs.Rules.{Rule, first_broken, or_else}
+use Rattle.duct_units.specs.Rules.{Rule, first_broken, or_else, at_section, at_file, at_fan}
 use Rattle.duct_units.proofs.RuleLaws.{first_broken-append, both_none, rule_holds}
 use Rattle.duct_definitions.specs.Network.{AreNames, IsFan, IsNetwork, IsSection, IsBounded, columns, columns_beside, size_count}
 use Rattle.duct_definitions.specs.declared.limits.TheConstants.{MAX_PRESSURE, MAX_FAN_COST}
@@ -18,7 +18,6 @@ use Rattle.duct_units.specs.declared.fault.Reason.TheVariants.{Twice, Field}
 use Rattle.file_definitions.specs.Document.{bounded, name_at, text_at, items_at, all_of, name_in}
 use Rattle.file_definitions.proofs.KindLaws.{all_of-at}
 use Rattle.duct_definitions.specs.declared.limits.TheConstants.{MAX_SIZES, MAX_FANS, MAX_LOSS, MAX_PRICE}
-use Rattle.duct_units.specs.Rules.{at_section, at_file}
 use Rattle.network_file.specs.SectionTables.{SectionEntry, entry_of, table_names, section_rules, section_table_rules, sections_rules}
 use Rattle.network_file.specs.Pairs.{sizes_rules, size_rules, pairs_rules, loss_rules, losses_rules, sizes_given, sizes_beside, size_in, beside_in, row_of, rows_of, cell_of, pair_in, columns_of, pairs_of_section}
 use Rattle.network_file.specs.Neighbours.{neighbour_of, neighbours_rules, tree_of, trees_rules}
@@ -33,7 +32,7 @@ use Rattle.duct_definitions.specs.declared.design.Pair.{Pair}
 use Rattle.duct_definitions.specs.declared.design.NetFan.{NetFan}
 use Rattle.duct_definitions.specs.Tree.{tree_rules}
 use Rattle.std.specs.List.{range_with_len, cons_option}
-use Rattle.network_file.specs.FanTables.{fan_of, fan_names, fan_rules, fans_rules, fan_table_rules, at_fan}
+use Rattle.network_file.specs.FanTables.{fan_of, fan_names, fan_rules, fans_rules, fan_table_rules}
 use Rattle.name_index.specs.Places.{place_of, is_among}
 use Rattle.file_definitions.specs.Elements.{each}
 use Rattle.file_definitions.proofs.ElementLaws.{each_holds}

@@ -1,23 +1,13 @@
 -- The tables of the fans of a network file.
 use Rattle.std.specs.Prelude.{ℕ, ◌+◌, List, [], ◌∷◌, ◌++◌, codes, map, length, nat_le, Bool, not, is_some, unwrap_or}
 use Rattle.toml.specs.Data.{Members}
-use Rattle.duct_units.specs.declared.fault.Fault.{Fault}
-use Rattle.duct_units.specs.declared.fault.Part.TheVariants.{Fan}
-use Rattle.duct_units.specs.declared.fault.Reason.{Reason}
 use Rattle.duct_units.specs.declared.fault.Reason.TheVariants.{Key, Field, TooMany, Twice}
-use Rattle.duct_units.specs.Rules.{Rule, at_file}
+use Rattle.duct_units.specs.Rules.{Rule, at_file, at_fan}
 use Rattle.duct_definitions.specs.declared.design.NetFan.{NetFan}
 use Rattle.duct_definitions.specs.declared.limits.TheConstants.{MAX_FANS, MAX_PRESSURE, MAX_FAN_COST}
 use Rattle.name_index.specs.Places.{is_among}
 use Rattle.file_definitions.specs.Document.{has_only, number_at, name_at}
 use Rattle.file_definitions.specs.Elements.{each}
-
--- a fault of the n-th fan, counted from 1
-abbrev pub fan_fault : ℕ → Reason → Fault
-fan_fault n reason = record { part = Fan; place = n; reason = reason }
-
-abbrev pub at_fan : ℕ → Bool → Reason → Rule
-at_fan n holds reason = record { holds = holds; fault = fan_fault n reason }
 
 abbrev pub fan_keys : List (List ℕ)
 fan_keys = codes "name" ∷ codes "pressure" ∷ codes "cost" ∷ []

@@ -7,6 +7,7 @@ use Rattle.duct_units.specs.Rules.{Rule, at_section}
 use Rattle.duct_definitions.specs.declared.design.Pair.{Pair as PairData}
 use Rattle.duct_definitions.specs.declared.limits.TheConstants.{MAX_SIZES, MAX_LOSS, MAX_PRICE}
 use Rattle.name_index.specs.Places.{is_among}
+use Rattle.duct_units.specs.Options.{◌>>=◌}
 use Rattle.file_definitions.specs.Document.{bounded}
 use Rattle.file_definitions.specs.Elements.{each}
 use Rattle.network_file.specs.declared.pairs.TheConstants.{MAX_PAIRS}
@@ -32,10 +33,6 @@ size_in count value = option_map (λ n. n - 1) (bounded 1 count (as_integer valu
 abbrev pub beside_in : Option ℕ → Data → Option ℕ
 beside_in None value = bounded 0 0 (as_integer value)
 beside_in (Some count) value = size_in count value
-
-infixl 10 ◌>>=◌
-abbrev pub ◌>>=◌ : {A B : Type 0} → Option A → (A → Option B) → Option B
-o >>= f = option_and_then f o
 
 -- four integers: a size, a neighbour's size, a loss and a price, each within its bounds
 abbrev pub row_of : ℕ → Option ℕ → List Data → Option PairRow

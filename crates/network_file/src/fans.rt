@@ -4,10 +4,10 @@ ghost use Rattle.toml.specs.View.{table_view};
 ghost use Rattle.duct_units.specs.Rules.{Gives, unless_refused, first_broken};
 ghost use Rattle.file_definitions.specs.Elements.{each};
 ghost use Rattle.toml_fields.specs.Kinds.{tables_in};
-ghost use Rattle.network_file.specs.FanTables.{fans_rules, fan_rules, fan_fault, fan_table_rules, fan_of};
+ghost use Rattle.network_file.specs.FanTables.{fans_rules, fan_rules, fan_table_rules, fan_of};
 
 use duct_definitions::{MAX_FAN_COST, MAX_FANS, MAX_PRESSURE, NetFan};
-use duct_units::{Fault, List, Part, ReadError, Reason};
+use duct_units::{Fault, List, ReadError, Reason};
 use name_index::NameIndex;
 use std::alloc::Global;
 use toml::Table;
@@ -37,7 +37,7 @@ fn read_each(alloc: Global, tables: &Tables) -> Result<List<NetFan>, ReadError>
         let place = i as u32 + 1;
         let fan = read_fan(tables.get(i), place)?;
         if !names.add(fan.name)? {
-            return Err(ReadError::Refused(fan_fault(place, Reason::Twice)));
+            return Err(ReadError::Refused(Fault::of_fan(place, Reason::Twice)));
         }
         if fans.push(fan).is_err() {
             return Err(ReadError::NoMemory);
@@ -52,31 +52,20 @@ fn read_fan(table: &Table, place: u32) -> Result<NetFan, Fault>
         result ≡ unless_refused (first_broken (fan_table_rules place fan)) (fan_of fan) }
 {
     if !has_only(table, &["name", "pressure", "cost"]) {
-        return Err(fan_fault(place, Reason::Key));
+        return Err(Fault::of_fan(place, Reason::Key));
     }
     let Some(name) = name_at(table, "name") else {
-        return Err(fan_fault(place, Reason::Field));
+        return Err(Fault::of_fan(place, Reason::Field));
     };
     let Some(pressure) = number_at(table, "pressure", 1, MAX_PRESSURE) else {
-        return Err(fan_fault(place, Reason::Field));
+        return Err(Fault::of_fan(place, Reason::Field));
     };
     let Some(cost) = number_at(table, "cost", 0, MAX_FAN_COST) else {
-        return Err(fan_fault(place, Reason::Field));
+        return Err(Fault::of_fan(place, Reason::Field));
     };
     Ok(NetFan {
         name,
         pressure,
         cost,
     })
-}
-
-/// A fault of a fan, by its place from 1.
-fn fan_fault(place: u32, reason: Reason) -> Fault
-    ensures { result ≡ fan_fault place reason }
-{
-    Fault {
-        part: Part::Fan,
-        place,
-        reason,
-    }
 }

@@ -2,8 +2,8 @@
 use Rattle.std.specs.Prelude.{ℕ, nat_le, nat_lt, not, List, [], ◌∷◌, length, codes, Result}
 use Rattle.duct_units.specs.declared.fault.Fault.{Fault}
 use Rattle.duct_units.specs.declared.fault.Reason.TheVariants.{Twice, TooMany}
-use Rattle.duct_units.specs.Rules.{Rule}
-use Rattle.file_definitions.specs.Rows.{Row, RowForm, rows_of, at_row, reading}
+use Rattle.duct_units.specs.Rules.{Rule, at_row}
+use Rattle.file_definitions.specs.Rows.{Row, RowForm, rows_of, reading}
 use Rattle.size_catalogue.specs.declared.limits.TheConstants.{MAX_LISTS, MAX_LIST_SIZES}
 use Rattle.size_catalogue.specs.declared.row.SizeRow.{SizeRow}
 use Rattle.name_index.specs.Places.{is_among}

@@ -1,13 +1,10 @@
 -- What a row of a sizes file says.
 use Rattle.std.specs.Prelude.{◌≤◌, Option, Some, option_and_then, IsTrue}
+use Rattle.duct_units.specs.Options.{◌>>=◌}
 use Rattle.duct_units.specs.Name.{is_name}
 use Rattle.file_definitions.specs.Rows.{Row, name_field, number_field}
 use Rattle.size_catalogue.specs.declared.limits.TheConstants.{MIN_AREA, MAX_AREA, MAX_HEIGHT, MAX_METRE_PRICE, MAX_JOIN_PRICE}
 use Rattle.size_catalogue.specs.declared.row.SizeRow.{SizeRow}
-
-infixl 10 ◌>>=◌
-abbrev pub ◌>>=◌ : {A B : Type 0} → Option A → (A → Option B) → Option B
-o >>= f = option_and_then f o
 
 -- none where a field isn't of its form or lies out of its bound
 abbrev pub size_of_row : Row → Option SizeRow

@@ -6,7 +6,7 @@
 
 ghost use Rattle.std.specs.Prelude.{◌≡◌, ◌++◌, map, [], ◌∷◌, OnOk, IfOk, string_bytes};
 ghost use Rattle.std.specs.Fmt.{decimal};
-ghost use Rattle.duct_definitions.specs.DesignText.{line};
+ghost use Rattle.duct_units.specs.Lines.{line};
 
 use duct_units::{List, NoMemory};
 use std::alloc::Global;

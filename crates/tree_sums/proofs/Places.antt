@@ -3,20 +3,21 @@ use Rattle.std.proofs.Common.{◌≡◌, ℕ, ◌+◌, Bool, true, false, refl, 
 use Rattle.std.proofs.lemmas.Bool.Decides.{nat_tests, eqb_tells}
 use Rattle.duct_units.specs.declared.side.Side.{Side}
 use Rattle.duct_units.specs.declared.side.Side.TheVariants.{Supply, Return}
-use Rattle.tree_sums.specs.Route.{Place, Fan, At, same_end, same}
+use Rattle.tree_sums.specs.Route.{Place, Fan, At, same}
+use Rattle.duct_units.specs.Side.{same_side}
 use Rattle.tree_sums.specs.Sums.{gated}
 
-same_end-refl : (x : Side) → same_end x x ≡ true
+same_end-refl : (x : Side) → same_side x x ≡ true
 same_end-refl Supply = refl
 same_end-refl Return = refl
 
-same_end-true : (x y : Side) → same_end x y ≡ true → x ≡ y
+same_end-true : (x y : Side) → same_side x y ≡ true → x ≡ y
 same_end-true Supply Supply is = refl
 same_end-true Return Return is = refl
 same_end-true Supply Return is = cc
 same_end-true Return Supply is = cc
 
-same_end-sym : (x y : Side) → same_end x y ≡ same_end y x
+same_end-sym : (x y : Side) → same_side x y ≡ same_side y x
 same_end-sym Supply Supply = refl
 same_end-sym Supply Return = refl
 same_end-sym Return Supply = refl

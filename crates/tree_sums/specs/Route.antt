@@ -1,21 +1,15 @@
 -- A tree of sections towards the fan. What stands next to a section is another section, or the fan on one of its sides.
 use Rattle.std.specs.Prelude.{◌≡◌, ℕ, zero, suc, ◌<◌, Bool, true, false, ◌||◌, ◌==◌, List, [], ◌∷◌}
 use Rattle.duct_units.specs.declared.side.Side.{Side}
-use Rattle.duct_units.specs.declared.side.Side.TheVariants.{Supply, Return}
+use Rattle.duct_units.specs.Side.{same_side}
 
 -- a side of the fan, or a section
 pub data Place : Type 0 where
   Fan : Side → Place
   At : ℕ → Place
 
-abbrev pub same_end : Side → Side → Bool
-same_end Supply Supply = true
-same_end Return Return = true
-same_end Supply Return = false
-same_end Return Supply = false
-
 abbrev pub same : Place → Place → Bool
-same (Fan x) (Fan y) = same_end x y
+same (Fan x) (Fan y) = same_side x y
 same (At s) (At t) = s == t
 same (Fan x) (At t) = false
 same (At s) (Fan y) = false

@@ -7,7 +7,7 @@
 ghost use Rattle.std.specs.Prelude.{◌≡◌, [], Some, None};
 ghost use Rattle.duct_definitions.specs.Designs.{Meets};
 ghost use Rattle.duct_definitions.specs.DesignText.{text, listed, none_text};
-ghost use Rattle.duct_definitions.specs.Least.{IsLeast};
+ghost use Rattle.least_laws.specs.Least.{IsLeast};
 ghost use Rattle.duct_definitions.specs.Network.{IsNetwork};
 ghost use Rattle.duct_definitions.specs.Order.{IsBest, NoneMeets};
 ghost use Rattle.worked_designs.specs.OneSection;

@@ -1,6 +1,6 @@
 use Rattle.std.proofs.Common.{arith}
 use Rattle.std.proofs.lemmas.Grind.{common_steps}
-use Rattle.duct_definitions.specs.DesignText.{line}
+use Rattle.duct_units.specs.Lines.{line}
 use Rattle.text_lines.proofs.add_line.Goals as goal
 
 pub loop-word-init : goal.loop-word-init

@@ -1,5 +1,5 @@
 use Rattle.std.proofs.Common.{◌≡◌, ◌++◌, map, drop}
-use Rattle.duct_definitions.specs.DesignText.{line, words_after}
+use Rattle.duct_units.specs.Lines.{line, words_after}
 use Rattle.text_lines.proofs.add_line.Given as goal
 
 abbrev pub invariant-loop-word : goal.invariant-loop-word

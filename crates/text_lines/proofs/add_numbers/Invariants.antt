@@ -1,6 +1,6 @@
 use Rattle.std.proofs.Common.{◌≡◌, ◌++◌, map, drop}
 use Rattle.std.specs.Fmt.{decimal}
-use Rattle.duct_definitions.specs.DesignText.{line, words_after}
+use Rattle.duct_units.specs.Lines.{line, words_after}
 use Rattle.text_lines.proofs.add_numbers.Given as goal
 
 abbrev pub invariant-loop-n : goal.invariant-loop-n

@@ -1,6 +1,6 @@
 use Rattle.std.proofs.Common.{refl}
 use Rattle.std.specs.Fmt.{digits}
-use Rattle.duct_definitions.specs.DesignText.{line}
+use Rattle.duct_units.specs.Lines.{line}
 use Rattle.worked_designs.proofs.earlier_fan.Goals as goal
 
 pub returns-clause-printed : goal.returns-clause-printed

@@ -1,6 +1,6 @@
 use Rattle.std.proofs.Common.{refl}
 use Rattle.std.specs.Fmt.{digits}
-use Rattle.duct_definitions.specs.DesignText.{line}
+use Rattle.duct_units.specs.Lines.{line}
 use Rattle.worked_designs.specs.TwoSides.{network, design}
 use Rattle.duct_definitions.proofs.Valid.{IsNetwork-tested}
 use Rattle.design_laws.proofs.Best.{IsBest-tested}

@@ -1,6 +1,7 @@
 use Rattle.std.proofs.Common.{ℕ, ◌∙◌, sym}
 use Rattle.std.specs.Prelude.{◌&&◌}
-use Rattle.duct_definitions.specs.Tree.{Tree, side, same_side, is_root}
+use Rattle.duct_definitions.specs.Tree.{Tree, side, is_root}
+use Rattle.duct_units.specs.Side.{same_side}
 use Rattle.air_tree.proofs.FilledLists.{chosen-yes, chosen-no}
 use Rattle.air_tree.proofs.lists.root_list.Goals as goal
 use Rattle.air_tree.proofs.lists.root_list.Goals.{then-is_root_of+in_ok-push, else-is_root_of}

@@ -5,7 +5,7 @@ use Rattle.pareto_front.specs.declared.point.Point.{Point}
 use Rattle.pareto_front.specs.Front.{cheapest}
 use Rattle.duct_definitions.specs.Tree.{Tree, roots}
 use Rattle.duct_definitions.specs.Network.{Network, cap}
-use Rattle.duct_definitions.specs.Least.{IsLeast}
+use Rattle.least_laws.specs.Least.{IsLeast}
 use Rattle.least_laws.specs.Choosing.{side_least}
 use Rattle.contract_join.specs.declared.front_sum.Run.{Run}
 use Rattle.contract_join.specs.FrontSum.{KeepsSum, in_one}

@@ -1,7 +1,7 @@
 use Rattle.std.proofs.Common.{◌≡◌, ◌<◌, ◌≤◌, arith, subst, List, get_or}
 use Rattle.pareto_front.specs.declared.point.Point.{Point}
 use Rattle.pareto_front.specs.Front.{cheapest}
-use Rattle.duct_definitions.specs.Least.{IsLeast}
+use Rattle.least_laws.specs.Least.{IsLeast}
 use Rattle.duct_definitions.specs.Network.{columns, cap}
 use Rattle.contract_join.specs.SectionFronts.{SectionData, front_of}
 use Rattle.contract_join.proofs.Fronts.{front_of-read}

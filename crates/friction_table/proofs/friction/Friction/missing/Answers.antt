@@ -1,6 +1,6 @@
 use Rattle.std.proofs.Common.{◌∙◌, sym, ap, ℕ, option_map, ◌+◌}
 use Rattle.duct_units.specs.declared.fault.Reason.TheVariants.{Missing}
-use Rattle.file_definitions.specs.Rows.{size_fault}
+use Rattle.duct_units.specs.Rules.{size_fault}
 use Rattle.friction_table.proofs.TableLaws.{missing_is}
 use Rattle.friction_table.proofs.friction.Friction.missing.Goals as goal
 

@@ -2,7 +2,7 @@
 -- section loses more than the budget.
 use Rattle.std.specs.Prelude.{◌≡◌, ℕ, ◌<◌, ◌≤◌, List, filter, sum_by, Option, Some, None, IsSome, All}
 use Rattle.duct_definitions.specs.declared.design.Pair.{Pair}
-use Rattle.duct_definitions.specs.Tree.{Tree, sections, neighbour, way, passes}
+use Rattle.duct_definitions.specs.Tree.{Tree, sections, neighbour, at_neighbour, way, passes}
 use Rattle.duct_definitions.specs.Network.{Network, size_count, pair_at}
 use Rattle.duct_definitions.specs.Designs.{loss_of, price_of}
 use Rattle.duct_definitions.specs.Dampers.{leaves_beyond}
@@ -15,14 +15,9 @@ sections_beyond t s = filter (passes t s) (sections t)
 abbrev pub way_to : Tree → ℕ → ℕ → List ℕ
 way_to t s leaf = filter (passes t s) (way t leaf)
 
--- the size of the neighbour, where sizes gives the size of each section; 0 at the fan
-abbrev pub size_next : (ℕ → ℕ) → Option ℕ → ℕ
-size_next sizes None = 0
-size_next sizes (Some n) = sizes n
-
 -- the pair of a section in these sizes, or none
 abbrev pub pair_in : Network → (ℕ → ℕ) → ℕ → Option Pair
-pair_in net sizes s = pair_at net s (sizes s) (size_next sizes (neighbour net.tree s))
+pair_in net sizes s = pair_at net s (sizes s) (at_neighbour sizes (neighbour net.tree s))
 
 -- the losses of the sections from a leaf to the section
 abbrev pub loss_to : Network → (ℕ → ℕ) → ℕ → ℕ → ℕ
@@ -35,7 +30,7 @@ price_beyond net sizes s = sum_by (λ t. price_of (pair_in net sizes t)) (sectio
 -- sizes of the section and of all beyond it, beside size g of the neighbour: every size is in range, every pair is
 -- there, and no path from a leaf to the section loses more than the budget
 pub record IsChoice (net : Network) (s g budget : ℕ) (sizes : ℕ → ℕ) : Type 0 where
-  pub beside : size_next sizes (neighbour net.tree s) ≡ g
+  pub beside : at_neighbour sizes (neighbour net.tree s) ≡ g
   pub each : All (λ t. sizes t < size_count net t) (sections_beyond net.tree s)
   pub pairs : All (λ t. IsSome (pair_in net sizes t)) (sections_beyond net.tree s)
   pub losses : All (λ leaf. loss_to net sizes s leaf ≤ budget) (leaves_beyond net.tree s)
