@@ -15,7 +15,7 @@ network = network_of (codes "order")
     ∷ [])
 
 abbrev pub design : Design
-design = record { fan = 0; sizes = 0 ∷ 1 ∷ [] }
+design = record { fan = 0; back = None; sizes = 0 ∷ 1 ∷ [] }
 
 abbrev pub printed : List ℕ
 printed =

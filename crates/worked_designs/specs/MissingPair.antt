@@ -15,7 +15,7 @@ network = network_of (codes "duo")
     ∷ [])
 
 abbrev pub design : Design
-design = record { fan = 0; sizes = 1 ∷ 0 ∷ [] }
+design = record { fan = 0; back = None; sizes = 1 ∷ 0 ∷ [] }
 
 abbrev pub printed : List ℕ
 printed =

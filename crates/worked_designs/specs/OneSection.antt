@@ -12,7 +12,7 @@ network = network_of (codes "one")
     ∷ [])
 
 abbrev pub design : Design
-design = record { fan = 0; sizes = 0 ∷ [] }
+design = record { fan = 0; back = None; sizes = 0 ∷ [] }
 
 abbrev pub printed : List ℕ
 printed =

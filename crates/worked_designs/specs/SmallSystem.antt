@@ -1,4 +1,4 @@
--- A main section with two branches, two sizes for each, and a dearer design beside the best one.
+-- A main section with two branches, two sizes for each, and a more expensive design beside the best one.
 use Rattle.std.specs.Prelude.{ℕ, List, [], ◌∷◌, ◌++◌, codes, Some, None}
 use Rattle.duct_units.specs.declared.side.Side.TheVariants.{Supply}
 use Rattle.duct_definitions.specs.declared.design.Design.{Design}
@@ -20,7 +20,7 @@ network = network_of (codes "small")
     ∷ [])
 
 abbrev pub design : Design
-design = record { fan = 0; sizes = 1 ∷ 1 ∷ 1 ∷ [] }
+design = record { fan = 0; back = None; sizes = 1 ∷ 1 ∷ 1 ∷ [] }
 
 abbrev pub printed : List ℕ
 printed =
@@ -36,11 +36,11 @@ printed =
     ++ codes "end\n"
 
 -- the cheaper size on the left wants the greater fan
-abbrev pub dearer_design : Design
-dearer_design = record { fan = 1; sizes = 1 ∷ 0 ∷ 1 ∷ [] }
+abbrev pub second_design : Design
+second_design = record { fan = 1; back = None; sizes = 1 ∷ 0 ∷ 1 ∷ [] }
 
-abbrev pub dearer_printed : List ℕ
-dearer_printed =
+abbrev pub second_printed : List ℕ
+second_printed =
     codes "design 1\n"
     ++ codes "project small\n"
     ++ codes "fan F2 900 63750\n"

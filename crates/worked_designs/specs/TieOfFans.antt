@@ -14,7 +14,7 @@ network = network_of (codes "ties")
     ∷ [])
 
 abbrev pub design : Design
-design = record { fan = 0; sizes = 1 ∷ 0 ∷ [] }
+design = record { fan = 0; back = None; sizes = 1 ∷ 0 ∷ [] }
 
 abbrev pub printed : List ℕ
 printed =

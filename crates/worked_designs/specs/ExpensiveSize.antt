@@ -1,4 +1,4 @@
--- A dearer size of the section saves a dearer fan.
+-- A more expensive size of the section saves a more expensive fan.
 use Rattle.std.specs.Prelude.{ℕ, List, [], ◌∷◌, ◌++◌, codes, None}
 use Rattle.duct_units.specs.declared.side.Side.TheVariants.{Supply}
 use Rattle.duct_definitions.specs.declared.design.Design.{Design}
@@ -6,18 +6,18 @@ use Rattle.duct_definitions.specs.Network.{Network}
 use Rattle.worked_designs.specs.Entries.{pair, fan, section, network_of}
 
 abbrev pub network : Network
-network = network_of (codes "dearer")
+network = network_of (codes "larger")
     (fan (codes "f1") 50 100 ∷ fan (codes "f2") 100 150 ∷ [])
     (section (codes "a") Supply None (codes "k1" ∷ codes "k2" ∷ []) (pair 80 10 ∷ pair 40 30 ∷ [])
     ∷ [])
 
 abbrev pub design : Design
-design = record { fan = 0; sizes = 1 ∷ [] }
+design = record { fan = 0; back = None; sizes = 1 ∷ [] }
 
 abbrev pub printed : List ℕ
 printed =
     codes "design 1\n"
-    ++ codes "project dearer\n"
+    ++ codes "project larger\n"
     ++ codes "fan f1 50 100\n"
     ++ codes "supply 40 50\n"
     ++ codes "return 0 0\n"
