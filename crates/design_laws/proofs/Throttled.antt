@@ -1,9 +1,9 @@
 -- On each leaf's way losses and dampers add to the head of its side.
 -- The slack of a section is at least its neighbour's, since every leaf beyond the section is beyond the neighbour too.
 -- So dampers are differences of slacks, which add up to the slack of the leaf: what its path loss leaves of the head.
-use Rattle.std.proofs.Common.{◌≡◌, ℕ, zero, suc, ◌+◌, ◌-◌, ◌<◌, ◌≤◌, inl, List, [], ◌∷◌, map, max, true, Option, Some, None, refl, ap, ◌∙◌, sym, subst, arith}
+use Rattle.std.proofs.Common.{◌≡◌, ℕ, zero, suc, ◌+◌, ◌-◌, ◌<◌, ◌≤◌, inl, List, [], ◌∷◌, true, Option, Some, None, refl, ap, ◌∙◌, sym, subst, arith}
 use Rattle.std.proofs.lemmas.List.Sums.{sum_by-cons}
-use Rattle.std.specs.Prelude.{sum_by, fold}
+use Rattle.std.specs.Prelude.{sum_by}
 use Rattle.duct_units.specs.declared.side.Side.{Side}
 use Rattle.duct_units.specs.declared.side.Side.TheVariants.{Supply, Return}
 use Rattle.duct_definitions.specs.declared.design.Design.{Design}
@@ -16,6 +16,7 @@ use Rattle.duct_definitions.specs.Balance.{IsLeafOf, PathsTakeHeads, PathsTake, 
 use Rattle.design_laws.proofs.Among.{Among, le-max, least_of-le, least_of-reached}
 use Rattle.duct_definitions.proofs.WayLaws.{way-at_fan, way-beside}
 use Rattle.design_laws.proofs.Ways.{neighbour_side}
+use Rattle.design_laws.proofs.ReturnSide.{no_return_loss}
 use Rattle.design_laws.proofs.Beyond.{IsBeyond, goes_on, alone_on_way, is_within, Among-leaves, Among-leaves_beyond, IsBeyond-from, IsBeyond-way}
 
 slack-le : (net : Network) (d : Design) (s leaf : ℕ) → IsBeyond net.tree s leaf
@@ -130,7 +131,7 @@ balanced_with net d None covered take = record {
       let other = take Return back of_return in
       omega arith;
   alone = λ none leaf of_supply.
-      let none_lost : worst net d Return ≡ 0 = ap (λ all. fold max 0 (map (path_loss net d) all)) none in
+      let none_lost = no_return_loss net d none in
       let whole = take Supply leaf of_supply in
       omega arith;
 }
