@@ -5,15 +5,18 @@ use Rattle.duct_definitions.specs.Network.{Network}
 use Rattle.worked_designs.specs.Entries.{fan, with_return_fans}
 use Rattle.worked_designs.specs.TwoSides.{tree_sections}
 
+-- the tree loses 75 dPa on the supply side and 30 on the return side
 abbrev pub network : Network
 network = with_return_fans (codes "tree")
     (fan (codes "f1") 80 10 ∷ [])
     (fan (codes "g1") 30 4 ∷ fan (codes "g2") 40 3 ∷ [])
     tree_sections
 
+-- g2, which gives more than g1 and costs less
 abbrev pub design : Design
 design = record { fan = 0; back = Some 1; sizes = 0 ∷ 0 ∷ 0 ∷ 0 ∷ 0 ∷ 0 ∷ 0 ∷ [] }
 
+-- the text of the design, line by line
 abbrev pub printed : List ℕ
 printed =
     codes "design 2\n"

@@ -5,6 +5,7 @@ use Rattle.duct_definitions.specs.declared.design.Design.{Design}
 use Rattle.duct_definitions.specs.Network.{Network}
 use Rattle.worked_designs.specs.Entries.{pair, fan, section, with_return_fans}
 
+-- f1 covers the one section, and g1 costs nothing
 abbrev pub network : Network
 network = with_return_fans (codes "one")
     (fan (codes "f1") 60 100 ∷ [])
@@ -12,9 +13,11 @@ network = with_return_fans (codes "one")
     (section (codes "a") Supply None (codes "k1" ∷ []) (pair 60 500 ∷ [])
     ∷ [])
 
+-- f1 alone
 abbrev pub design : Design
 design = record { fan = 0; back = None; sizes = 0 ∷ [] }
 
+-- the text of the design, line by line
 abbrev pub printed : List ℕ
 printed =
     codes "design 1\n"

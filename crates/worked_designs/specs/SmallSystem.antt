@@ -19,9 +19,11 @@ network = network_of (codes "small")
     ∷ section (codes "right") Supply (Some 0) round (None ∷ None ∷ pair 283 61200 ∷ pair 283 60800 ∷ [])
     ∷ [])
 
+-- the best design
 abbrev pub design : Design
 design = record { fan = 0; back = None; sizes = 1 ∷ 1 ∷ 1 ∷ [] }
 
+-- the text of the design, line by line
 abbrev pub printed : List ℕ
 printed =
     codes "design 1\n"
@@ -35,10 +37,11 @@ printed =
     ++ codes "cost 149900\n"
     ++ codes "end\n"
 
--- the cheaper size on the left wants the greater fan
+-- the cheaper size on the left needs the greater fan
 abbrev pub second_design : Design
 second_design = record { fan = 1; back = None; sizes = 1 ∷ 0 ∷ 1 ∷ [] }
 
+-- its text, line by line
 abbrev pub second_printed : List ℕ
 second_printed =
     codes "design 1\n"

@@ -12,15 +12,18 @@ ends =
     ∷ section (codes "r") Return None (codes "k1" ∷ []) (pair 60 10 ∷ [])
     ∷ []
 
+-- f1 costs 100; f2 and g1 cost 50 together
 abbrev pub network : Network
 network = with_return_fans (codes "ends")
     (fan (codes "f1") 120 100 ∷ fan (codes "f2") 60 20 ∷ [])
     (fan (codes "g1") 60 30 ∷ [])
     ends
 
+-- f2 with g1
 abbrev pub design : Design
 design = record { fan = 1; back = Some 0; sizes = 0 ∷ 0 ∷ [] }
 
+-- the text of the design, line by line
 abbrev pub printed : List ℕ
 printed =
     codes "design 2\n"

@@ -5,6 +5,7 @@ use Rattle.duct_definitions.specs.declared.design.Design.{Design}
 use Rattle.duct_definitions.specs.Network.{Network}
 use Rattle.worked_designs.specs.Entries.{Section, pair, fan, section, network_of}
 
+-- the sections of the tree, supply first
 abbrev pub tree_sections : List Section
 tree_sections =
     section (codes "t") Supply None (codes "k" ∷ []) (pair 20 1 ∷ [])
@@ -16,12 +17,15 @@ tree_sections =
     ∷ section (codes "r2") Return None (codes "k" ∷ []) (pair 10 1 ∷ [])
     ∷ []
 
+-- the tree, and a fan that gives 130 dPa
 abbrev pub network : Network
 network = network_of (codes "tree") (fan (codes "f1") 130 10 ∷ []) tree_sections
 
+-- the one choice
 abbrev pub design : Design
 design = record { fan = 0; back = None; sizes = 0 ∷ 0 ∷ 0 ∷ 0 ∷ 0 ∷ 0 ∷ 0 ∷ [] }
 
+-- the text of the design, line by line
 abbrev pub printed : List ℕ
 printed =
     codes "design 1\n"
