@@ -39,22 +39,27 @@ chosen_below test n =
 pub chosen_pass : (test : ℕ → Bool) (n : ℕ) → All (λ s. IsTrue (test s)) (filter test (range_with_len 0 n))
 chosen_pass test n = filter_passes test (range_with_len 0 n)
 
-range-push : (a n : ℕ) → range_with_len a (suc n) ≡ range_with_len a n ++ (a + n) ∷ []
+pub range-push : (a n : ℕ) → range_with_len a (suc n) ≡ range_with_len a n ++ (a + n) ∷ []
 range-push a zero = ap (λ m. m ∷ []) (omega arith)
 range-push a (suc n) =
     ap (λ xs. a ∷ xs) (range-push (a + 1) n)
     ∙ ap (λ m. a ∷ (range_with_len (a + 1) n ++ m ∷ [])) (omega arith)
 
 -- one more number
+pub chosen-suc : (test : ℕ → Bool) (n : ℕ)
+    → filter test (range_with_len 0 (suc n)) ≡ filter test (range_with_len 0 n) ++ cond (test n) (n ∷ []) []
+chosen-suc test n =
+    let last : 0 + n ≡ n = omega arith in
+    ap (filter test) (range-push 0 n)
+    ∙ filter-append test (range_with_len 0 n) ((0 + n) ∷ [])
+    ∙ ap (λ m. filter test (range_with_len 0 n) ++ cond (test m) (m ∷ []) []) last
+
+-- the same as a loop counts it
 pub chosen-push : (test : ℕ → Bool) (n : ℕ)
     → filter test (range_with_len 0 (n + 1)) ≡ filter test (range_with_len 0 n) ++ cond (test n) (n ∷ []) []
 chosen-push test n =
     let more : n + 1 ≡ suc n = omega arith in
-    let last : 0 + n ≡ n = omega arith in
-    ap (λ m. filter test (range_with_len 0 m)) more
-    ∙ ap (filter test) (range-push 0 n)
-    ∙ filter-append test (range_with_len 0 n) ((0 + n) ∷ [])
-    ∙ ap (λ m. filter test (range_with_len 0 n) ++ cond (test m) (m ∷ []) []) last
+    ap (λ m. filter test (range_with_len 0 m)) more ∙ chosen-suc test n
 
 -- the number of the neighbour
 pub is_number-some : (s : ℕ) (o : Option ℕ) → is_number s o ≡ true → o ≡ Some s
