@@ -55,7 +55,7 @@ among-list_any s (y ∷ ys) any =
     ]
 
 -- a greatest value is at least the first, and at least each
-start-le-max : (f : ℕ → ℕ) (a : ℕ) (xs : List ℕ) → a ≤ fold max a (map f xs)
+pub start-le-max : {X : Type 0} (f : X → ℕ) (a : ℕ) (xs : List X) → a ≤ fold max a (map f xs)
 start-le-max f a [] = omega arith
 start-le-max f a (x ∷ xs) = let more = start-le-max f (max a (f x)) xs in omega arith
 

@@ -9,7 +9,8 @@ use Rattle.duct_definitions.specs.Dampers.{leaves_beyond}
 use Rattle.duct_definitions.proofs.TreeLaws.{earlier}
 use Rattle.design_laws.proofs.Among.{Among, Among-filter, Among-filtered, Among-range, list_any-among, among-list_any}
 use Rattle.duct_definitions.proofs.WayLaws.{way-beside}
-use Rattle.design_laws.proofs.Ways.{same_side-same, same_side-true, neighbour_side, along_way}
+use Rattle.design_laws.proofs.Ways.{neighbour_side, along_way}
+use Rattle.duct_units.proofs.SideLaws.{same_side-same, same_side-true}
 
 among_sections : (t : Tree) (s : ℕ) → s < section_count t → Among s (sections t)
 among_sections t s within = Among-range 0 (section_count t) s (omega arith) (omega arith)
