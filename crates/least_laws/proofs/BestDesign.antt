@@ -1,5 +1,6 @@
 -- The design taken from the fan outwards, with the chosen fans and supply budget, is the best.
 use Rattle.std.proofs.Common.{◌≡◌, ℕ, ◌+◌, ◌≤◌, ◌⊎◌, inl, inr, arith, ap, sym, ◌∙◌, subst, Some}
+use Rattle.std.proofs.lemmas.Option.{same_Some}
 use Rattle.std.proofs.lemmas.Bool.Decides.{leb_tells}
 use Rattle.duct_units.specs.declared.side.Side.{Side}
 use Rattle.duct_units.specs.declared.side.Side.TheVariants.{Supply, Return}
@@ -14,7 +15,6 @@ use Rattle.tree_sums.specs.Route.{Fan}
 use Rattle.least_laws.specs.LeastIn.{least_in}
 use Rattle.least_laws.specs.Choosing.{side_least, budget_of, IsOffered, IsChosen, IsDescent}
 use Rattle.least_laws.proofs.Ducts.{IsSizing}
-use Rattle.least_laws.proofs.LeastBelow.{some-same}
 use Rattle.least_laws.proofs.Side.{side-tight}
 use Rattle.least_laws.proofs.Descent.{IsBestSizing, descent-first}
 use Rattle.least_laws.proofs.TreePlaces.{next_in-falls}
@@ -120,7 +120,7 @@ module _ (net : Network) (tree : IsTree net.tree) (d : Design) (supply price : �
       other_ge x =
           let bound = side_least-bound net tree e x (budget_of net d.fan d.back supply x) (other_sizing x) in
           let most = bound.2 in
-          let same = some-same _ _ (sym bound.1 ∙ least_is x) in
+          let same = same_Some _ _ (sym bound.1 ∙ least_is x) in
           omega arith
 
       other_le : (x : Side) → side_price net e x ≤ side_price net d x

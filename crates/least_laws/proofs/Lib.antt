@@ -1,3 +1,4 @@
+pub mod PriceLaws
 pub mod Ducts
 pub mod LeastBelow
 pub mod Joined
@@ -25,6 +26,5 @@ pub mod CostBound
 pub mod DescentMeets
 pub mod BestDesign
 pub mod Attained
-pub mod Loops
 pub mod ChosenAgrees
 pub mod Exact
