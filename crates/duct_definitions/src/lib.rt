@@ -5,11 +5,13 @@
 //! The definitions in words, with examples: docs/RULES.md.
 #![tactic(auto)]
 
+mod airflow;
 mod design;
 pub mod laws;
 mod limits;
 mod listed;
 
+pub use airflow::{MAX_FLOW, MAX_LEAK, THOUSANDTHS};
 pub use design::{Design, NetFan, Pair};
 pub use limits::{
     MAX_FAN_COST, MAX_FANS, MAX_LOSS, MAX_PRESSURE, MAX_PRICE, MAX_SECTIONS, MAX_SIZES,
