@@ -1,11 +1,14 @@
 -- What the lists of a tree hold.
-use Rattle.std.proofs.Common.{◌≡◌, ℕ, ◌<◌, List, length, map, get_or, cond, ap, ◌∙◌, sym, subst, arith}
-use Rattle.std.proofs.lemmas.List.FromFn.{length-map-range_with_len, get_or-map-range_with_len}
+use Rattle.std.proofs.Common.{◌≡◌, ℕ, ◌<◌, ◌≤◌, List, length, map, get_or, Bool, true, false, cond, ap, ◌∙◌, sym, subst, arith}
+use Rattle.std.proofs.lemmas.List.Sums.{length-filter, sum_by-le}
+use Rattle.std.proofs.lemmas.List.FromFn.{length-range_with_len, length-map-range_with_len, get_or-map-range_with_len}
 use Rattle.std.specs.Prelude.{◌==◌, All, IsTrue, filter, count_by}
 use Rattle.std.specs.List.Sorted.{IsStrictlyIncreasing}
 use Rattle.duct_units.specs.declared.side.Side.{Side}
 use Rattle.duct_definitions.specs.Tree.{Tree, IsTree, section_count, sections, neighbour, side, is_number, children, is_leaf, leaves, all_leaves, roots}
 use Rattle.duct_units.specs.Side.{same_side}
+use Rattle.duct_definitions.specs.declared.limits.TheConstants.{MAX_SECTIONS}
+use Rattle.duct_definitions.proofs.TreeLaws.{few_sections}
 use Rattle.duct_definitions.proofs.SectionLists.{chosen_rising, chosen_below, chosen_pass, children_later, child_once, leaves_of_side}
 
 -- the list that stands at s among the lists of all sections
@@ -25,12 +28,22 @@ child_list_within t lists s are within =
     ap (λ all. length all) are ∙ length-map-range_with_len (children t) 0 (section_count t) in
     omega arith
 
+-- no list of sections is longer than the tree has sections
+chosen_few : (t : Tree) (test : ℕ → Bool) → IsTree t → length (filter test (sections t)) ≤ MAX_SECTIONS
+chosen_few t test tree =
+    let less = sum_by-le (λ s. cond (test s) 1 0) 1 (sections t) (λ k d within. elim (test (get_or (sections t) k d)) as (λ b. cond b 1 0 ≤ 1) [ true ↦ omega arith | false ↦ omega arith ]) in
+    let count = length-range_with_len 0 (section_count t) in
+    let is = length-filter test (sections t) in
+    let few = few_sections t tree in
+    omega arith
+
 -- a list of children is in rising number, beyond its section, and of sections
 pub record AreChildren (t : Tree) (s : ℕ) (xs : List ℕ) : Type 0 where
   pub value : xs ≡ children t s
   pub rising : IsStrictlyIncreasing xs
   pub later : All (λ c. s < c) xs
   pub sections : All (λ c. c < section_count t) xs
+  pub few : length xs ≤ MAX_SECTIONS
 
 pub are_children : (t : Tree) (s : ℕ) (xs : List ℕ) → IsTree t → xs ≡ children t s → AreChildren t s xs
 are_children t s xs tree is = record {
@@ -38,6 +51,7 @@ are_children t s xs tree is = record {
   rising = subst (λ (ys : List ℕ). IsStrictlyIncreasing ys) (sym is) (chosen_rising _ (section_count t));
   later = subst (λ (ys : List ℕ). All (λ c. s < c) ys) (sym is) (children_later t s tree);
   sections = subst (λ (ys : List ℕ). All (λ c. c < section_count t) ys) (sym is) (chosen_below _ (section_count t));
+  few = subst (λ (ys : List ℕ). length ys ≤ MAX_SECTIONS) (sym is) (chosen_few t _ tree);
 }
 
 pub record AreLeaves (t : Tree) (xs : List ℕ) : Type 0 where
@@ -58,12 +72,14 @@ pub record AreRoots (t : Tree) (x : Side) (xs : List ℕ) : Type 0 where
   pub value : xs ≡ roots t x
   pub rising : IsStrictlyIncreasing xs
   pub sections : All (λ s. s < section_count t) xs
+  pub few : length xs ≤ MAX_SECTIONS
 
-pub are_roots : (t : Tree) (x : Side) (xs : List ℕ) → xs ≡ roots t x → AreRoots t x xs
-are_roots t x xs is = record {
+pub are_roots : (t : Tree) (x : Side) (xs : List ℕ) → IsTree t → xs ≡ roots t x → AreRoots t x xs
+are_roots t x xs tree is = record {
   value = is;
   rising = subst (λ (ys : List ℕ). IsStrictlyIncreasing ys) (sym is) (chosen_rising _ (section_count t));
   sections = subst (λ (ys : List ℕ). All (λ s. s < section_count t) ys) (sym is) (chosen_below _ (section_count t));
+  few = subst (λ (ys : List ℕ). length ys ≤ MAX_SECTIONS) (sym is) (chosen_few t _ tree);
 }
 
 -- the names under which an attribute can list them

@@ -1,2 +1,3 @@
 pub mod TreeLists
 pub mod TreeFields
+pub mod CarriedFlows

@@ -1,7 +1,8 @@
 //! The tree, with what it gives of each section.
-ghost use Rattle.std.specs.Prelude.{◌≡◌, ◌<◌, length, Some, None, IfSome, IfOk, IsTrue, All};
+ghost use Rattle.std.specs.Prelude.{◌≡◌, ◌<◌, ◌≤◌, length, Some, None, IfSome, IfOk, IsTrue, All};
 ghost use Rattle.std.specs.List.Sorted.{IsStrictlyIncreasing};
 ghost use Rattle.duct_units.specs.Rules.{Gives, unless_refused, first_broken};
+ghost use Rattle.duct_definitions.specs.declared.limits.TheConstants.{MAX_SECTIONS};
 ghost use Rattle.duct_definitions.specs.Tree.{Tree, section_count, neighbour, side, children, is_leaf, all_leaves, roots, tree_rules, IsTree};
 
 use crate::lists::{child_lists, leaf_list, root_list};
@@ -55,6 +56,7 @@ impl AirTree {
     /// How many sections there are.
     pub fn len(&self) -> u32
         ensures value { result ≡ section_count self.now }
+        ensures few { result ≤ MAX_SECTIONS }
         ensures tree { IsTree self.now }
     {
         self.neighbours.as_slice().len() as u32
@@ -84,6 +86,7 @@ impl AirTree {
         ensures rising { IsStrictlyIncreasing result.now }
         ensures later { All (λ c. s < c) result.now }
         ensures sections { All (λ c. c < section_count self.now) result.now }
+        ensures few { length result.now ≤ MAX_SECTIONS }
     {
         self.child_lists.as_slice()[s as usize].as_slice()
     }
@@ -103,6 +106,7 @@ impl AirTree {
         ensures value { result.now ≡ roots self.now side }
         ensures rising { IsStrictlyIncreasing result.now }
         ensures sections { All (λ s. s < section_count self.now) result.now }
+        ensures few { length result.now ≤ MAX_SECTIONS }
     {
         match side {
             Side::Supply => self.supply_roots.as_slice(),

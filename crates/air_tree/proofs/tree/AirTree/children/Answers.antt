@@ -32,3 +32,6 @@ returns-clause-later c = (found c).later
 
 pub returns-clause-sections : goal.returns-clause-sections
 returns-clause-sections c = (found c).sections
+
+pub returns-clause-few : goal.returns-clause-few
+returns-clause-few c = (found c).few
