@@ -27,9 +27,9 @@ choice-more net s g few many sizes less choice = record {
       omega arith);
 }
 
-pub least_never_rises : (net : Network) (s g few many : ℕ) (dear cheap : Option ℕ) → few ≤ many
-    → IsLeast net s g few dear → IsLeast net s g many cheap
-    → IfSome dear (λ more. IsSomeAnd cheap (λ less. less ≤ more))
+pub least_never_rises : (net : Network) (s g few many : ℕ) (costly cheap : Option ℕ) → few ≤ many
+    → IsLeast net s g few costly → IsLeast net s g many cheap
+    → IfSome costly (λ more. IsSomeAnd cheap (λ less. less ≤ more))
 least_never_rises net s g few many None cheap within one other = tt
 least_never_rises net s g few many (Some more) None within one other =
     absurd (other one.reached.0 (choice-more net s g few many one.reached.0 within one.reached.1.0))

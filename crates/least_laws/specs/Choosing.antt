@@ -10,7 +10,7 @@ use Rattle.duct_definitions.specs.Designs.{size_beside, pair_of, loss_of, fans_c
 use Rattle.duct_definitions.specs.Order.{turn_of}
 use Rattle.duct_units.specs.Prices.{both_of}
 use Rattle.least_laws.specs.Prices.{sum_of}
-use Rattle.least_laws.specs.LeastIn.{least_in, least_with}
+use Rattle.least_laws.specs.LeastFromChildren.{least_in, least_with}
 
 -- the least price of a side within a budget: the sum of the leasts of its roots, 0 without sections
 abbrev pub side_least : Network → Side → ℕ → Option ℕ
