@@ -73,7 +73,8 @@ module _ (net : Network) (tree : IsTree net.tree) (d : Design) (supply price : �
         elim (leb_tells d.fan e.fan) [
           | inl less ↦ less.1
           | inr more ↦
-              absurd (chosen.first_fan e.fan e.back (worst net e Supply) more.1 (offered net tree e meets) (other_price equal))
+              absurd (chosen.first_fan e.fan e.back (worst net e Supply) more.1 (offered net tree e meets)
+              (other_price equal))
         ]
 
     turn_le : cost net d ≡ cost net e → d.fan ≡ e.fan → turn_of d.back ≤ turn_of e.back

@@ -39,7 +39,8 @@ pub record IsOffered (net : Network) (fan : ℕ) (own : Option ℕ) (budget : �
 
 -- the fans and the supply budget have the least cost; no earlier fan has it, with this fan no earlier turn of a return
 -- fan, and with both no less supply budget
-pub record IsChosen (net : Network) (supply back : ℕ → Option ℕ) (fan : ℕ) (own : Option ℕ) (budget cost : ℕ) : Type 0 where
+pub record IsChosen (net : Network) (supply back : ℕ → Option ℕ) (fan : ℕ) (own : Option ℕ) (budget cost : ℕ)
+    : Type 0 where
   pub offered : IsOffered net fan own budget
   pub reached : cost_at net supply back fan own budget ≡ Some cost
   pub least : (i : ℕ) (o : Option ℕ) (b c : ℕ) → IsOffered net i o b → cost_at net supply back i o b ≡ Some c → cost ≤ c
