@@ -9,7 +9,8 @@ use Rattle.duct_definitions.proofs.TreeLaws.{rules_hold, earlier}
 use Rattle.duct_definitions.proofs.WayLaws.{way-at_fan, way-beside}
 use Rattle.design_laws.proofs.Among.{Among}
 
-pub neighbour_side : (t : Tree) (s n : ℕ) → IsTree t → s < section_count t → neighbour t s ≡ Some n → side t n ≡ side t s
+pub neighbour_side : (t : Tree) (s n : ℕ) → IsTree t → s < section_count t → neighbour t s ≡ Some n
+    → side t n ≡ side t s
 neighbour_side t s n tree within is =
     let same : List Rule = at_section (s + 1) (is_on_side t (side t s) (neighbour t s)) OtherSide ∷ [] in
     let rest = (rule_holds (is_before s (neighbour t s)) (first_broken same)

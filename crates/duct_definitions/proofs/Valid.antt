@@ -152,7 +152,8 @@ IsNetwork-tested net passed =
       name_count = eqb-true (length net.names) (section_count net.tree) name_count;
       size_lists = eqb-true (length net.sizes) (section_count net.tree) size_lists;
       pair_lists = eqb-true (length net.pairs) (section_count net.tree) pair_lists;
-      sections = λ s within. IsSection-tested net s (all_below-holds (section_count net.tree) (is_section net) sections s within);
+      sections = λ s within.
+          IsSection-tested net s (all_below-holds (section_count net.tree) (is_section net) sections s within);
       fans = AreFans-tested net.fans fans;
       return_fans = AreFans-tested net.return_fans return_fans;
     }

@@ -1,5 +1,5 @@
 -- The test of two sides: it holds of each side and itself alone, and is the same the other way round.
-use Rattle.std.proofs.Common.{◌≡◌, true, false, refl}
+use Rattle.std.proofs.Common.{◌≡◌, true, refl}
 use Rattle.duct_units.specs.declared.side.Side.{Side}
 use Rattle.duct_units.specs.declared.side.Side.TheVariants.{Supply, Return}
 use Rattle.duct_units.specs.Side.{same_side}

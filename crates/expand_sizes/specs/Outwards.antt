@@ -5,7 +5,7 @@
 use Rattle.std.specs.Prelude.{ℕ, ◌<◌, ◌≤◌, List, Option, Some, None, slice_index, IsSome}
 use Rattle.duct_definitions.specs.Tree.{IsTree, section_count}
 use Rattle.duct_definitions.specs.Network.{Network, columns, cap}
-use Rattle.least_laws.specs.LeastIn.{least_in}
+use Rattle.least_laws.specs.LeastFromChildren.{least_in}
 
 -- the size of the neighbour, where sizes has those of the sections before; 0 at the fan
 abbrev pub size_towards : List ℕ → Option ℕ → ℕ

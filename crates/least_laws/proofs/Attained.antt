@@ -11,7 +11,7 @@ use Rattle.duct_definitions.specs.Designs.{loss_of}
 use Rattle.design_laws.proofs.Among.{Among, Among-filter, Among-range}
 use Rattle.duct_units.proofs.SideLaws.{same_side-same}
 use Rattle.least_laws.specs.Prices.{sum_of}
-use Rattle.least_laws.specs.LeastIn.{least_with, least_in}
+use Rattle.least_laws.specs.LeastFromChildren.{least_with, least_in}
 use Rattle.least_laws.specs.Choosing.{side_least, Attains}
 use Rattle.least_laws.proofs.LeastBelow.{least_below-some}
 use Rattle.least_laws.proofs.WithPair.{made}

@@ -12,7 +12,7 @@ use Rattle.duct_definitions.specs.Order.{Earlier, turn_of, Before, IsBest}
 use Rattle.duct_definitions.proofs.OrderLaws.{turn_of-inj}
 use Rattle.design_laws.proofs.TotalOrder.{same_design}
 use Rattle.tree_sums.specs.Route.{Fan}
-use Rattle.least_laws.specs.LeastIn.{least_in}
+use Rattle.least_laws.specs.LeastFromChildren.{least_in}
 use Rattle.least_laws.specs.Choosing.{side_least, budget_of, IsOffered, IsChosen, IsDescent}
 use Rattle.least_laws.proofs.Ducts.{IsSizing}
 use Rattle.least_laws.proofs.Side.{side-tight}
@@ -21,7 +21,7 @@ use Rattle.least_laws.proofs.TreePlaces.{next_in-falls}
 use Rattle.least_laws.proofs.DuctsOf.{ducts_of}
 use Rattle.least_laws.proofs.SideLeast.{side_sum-least, least_in-sums, least_in-roots}
 use Rattle.least_laws.proofs.DesignSizes.{sizes_in, cost-sides, sizing-from_meets}
-use Rattle.least_laws.proofs.Taken.{left_over, left_over-is, descent-left, descent-first_sizes}
+use Rattle.least_laws.proofs.DescentSizes.{left_over, left_over-is, descent-left, descent-first_sizes}
 use Rattle.least_laws.proofs.Comparing.{le_then, Earlier-from}
 use Rattle.least_laws.proofs.CostBound.{side_price, least_cost, both_sides, side_least-bound, covers-budgets, cost_bound, offered}
 use Rattle.least_laws.proofs.DescentMeets.{side_least-is, worst-budget, descent_meets, descent_cost}
@@ -73,7 +73,8 @@ module _ (net : Network) (tree : IsTree net.tree) (d : Design) (supply price : �
         elim (leb_tells d.fan e.fan) [
           | inl less ↦ less.1
           | inr more ↦
-              absurd (chosen.first_fan e.fan e.back (worst net e Supply) more.1 (offered net tree e meets) (other_price equal))
+              absurd (chosen.first_fan e.fan e.back (worst net e Supply) more.1 (offered net tree e meets)
+              (other_price equal))
         ]
 
     turn_le : cost net d ≡ cost net e → d.fan ≡ e.fan → turn_of d.back ≤ turn_of e.back

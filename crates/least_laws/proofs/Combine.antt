@@ -47,7 +47,8 @@ module _ (next : ℕ → Place) (falls : Falls next) (s : ℕ) (G : ℕ → ℕ 
       let less = falls c s child in
       let not_here : (t == s) ≡ false = ne_eqb t s (omega arith) in
       let not_next : same (next s) (At t) ≡ false =
-      false_from_ne_true (same (next s) (At t)) (λ is. let before = falls s t (same-true (next s) (At t) is) in omega arith) in
+      false_from_ne_true (same (next s) (At t))
+      (λ is. let before = falls s t (same-true (next s) (At t) is) in omega arith) in
       ap (λ b. cond b k (cond (same (next s) (At t)) g (pick next s G n t))) not_here
       ∙ ap (λ b. cond b g (pick next s G n t)) not_next
       ∙ pick-is c t n within child by

@@ -10,7 +10,7 @@ use Rattle.duct_definitions.specs.Network.{Network}
 use Rattle.duct_definitions.specs.Designs.{Meets, worst, fans_cost, cost}
 use Rattle.tree_sums.specs.Route.{Fan}
 use Rattle.tree_sums.proofs.Places.{same-refl}
-use Rattle.least_laws.specs.LeastIn.{least_in}
+use Rattle.least_laws.specs.LeastFromChildren.{least_in}
 use Rattle.least_laws.specs.Choosing.{side_least, budget_of, IsChosen, IsDescent}
 use Rattle.least_laws.proofs.Ducts.{IsSizing}
 use Rattle.least_laws.proofs.Side.{side-sizing, side_sum-optimal}
@@ -19,7 +19,7 @@ use Rattle.least_laws.proofs.TreePlaces.{next_in-falls}
 use Rattle.least_laws.proofs.DuctsOf.{ducts_of}
 use Rattle.least_laws.proofs.SideLeast.{side_sum-least, least_in-sums, least_in-roots}
 use Rattle.least_laws.proofs.DesignSizes.{sizes_in, chosen-pair_of, goes_by-side, cost-sides, worst-le}
-use Rattle.least_laws.proofs.Taken.{descent-left, descent-first_sizes}
+use Rattle.least_laws.proofs.DescentSizes.{descent-left, descent-first_sizes}
 use Rattle.least_laws.proofs.CostBound.{side_price, both_sides, covers-from}
 
 module _ (net : Network) (tree : IsTree net.tree) (d : Design) (supply price : ℕ)

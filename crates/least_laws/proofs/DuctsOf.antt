@@ -11,7 +11,7 @@ use Rattle.tree_sums.specs.Route.{At, goes_by}
 use Rattle.tree_sums.specs.Sums.{along, gated, beyond}
 use Rattle.tree_sums.proofs.Totals.{total-cong}
 use Rattle.least_laws.specs.Prices.{least_below, sum_of, with_pair}
-use Rattle.least_laws.specs.LeastIn.{least_with, least_from, AreLeasts}
+use Rattle.least_laws.specs.LeastFromChildren.{least_with, least_from, AreLeasts}
 use Rattle.least_laws.proofs.Ducts.{Ducts, size_at, chosen, loss, price, IsBeside, IsSizing, price_sum, IsLeastSum, joined, sum_with, sum_from, AreLeastSums}
 use Rattle.least_laws.proofs.TreePlaces.{place_of, next_in, neighbour-at, neighbour-fan, passes-goes_by, sum_by-way, sum_by-filter}
 use Rattle.least_laws.proofs.TreeLists.{All-beyond, All-from_beyond, All-leaves, All-from_leaves, children-same}

@@ -12,10 +12,10 @@ use Rattle.least_laws.specs.Least.{IsLeast}
 use Rattle.design_laws.proofs.Among.{Among, Among-filtered}
 use Rattle.duct_units.specs.Prices.{both_of}
 use Rattle.least_laws.specs.Prices.{sum_of}
-use Rattle.least_laws.specs.LeastIn.{least_in, IsExact}
+use Rattle.least_laws.specs.LeastFromChildren.{least_in, IsExact}
 use Rattle.least_laws.specs.SamePairs.{AgreeBeyond}
 use Rattle.least_laws.specs.Choosing.{side_least}
-use Rattle.least_laws.proofs.Alike.{least_agrees, columns-agree}
+use Rattle.least_laws.proofs.AgreeingNetworks.{least_agrees, columns-agree}
 use Rattle.least_laws.proofs.Leasts.{least_in-is, least_in-unique}
 use Rattle.least_laws.proofs.Bounds.{least_bounded}
 use Rattle.least_laws.proofs.SumOf.{sum_of-le}

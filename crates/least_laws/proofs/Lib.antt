@@ -4,9 +4,9 @@ pub mod LeastBelow
 pub mod Joined
 pub mod WithPair
 pub mod Combine
-pub mod Step
-pub mod Ends
-pub mod Theorem
+pub mod ChildSizings
+pub mod SectionAndBeyond
+pub mod LeastOfSection
 pub mod Unique
 pub mod Optimal
 pub mod Side
@@ -16,11 +16,11 @@ pub mod SumOf
 pub mod TreeLists
 pub mod DuctsOf
 pub mod Leasts
-pub mod Alike
+pub mod AgreeingNetworks
 pub mod Bounds
 pub mod DesignSizes
 pub mod SideLeast
-pub mod Taken
+pub mod DescentSizes
 pub mod Comparing
 pub mod CostBound
 pub mod DescentMeets

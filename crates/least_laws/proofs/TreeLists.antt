@@ -87,7 +87,8 @@ end-leaf t leaf within end =
     let none : children t leaf ≡ [] =
     children-same t leaf
     ∙ filter-range_none (λ c. same (next_in t c) (At leaf)) (section_count t)
-    (λ c less. false_from_ne_true (same (next_in t c) (At leaf)) (λ is. end c less (same-true (next_in t c) (At leaf) is))) in
+    (λ c less.
+    false_from_ne_true (same (next_in t c) (At leaf)) (λ is. end c less (same-true (next_in t c) (At leaf) is))) in
     and_from _ _ (lt-ltb leaf (section_count t) within) (ap (λ cs. length cs == 0) none)
 
 module _ (t : Tree) (tree : IsTree t) (s : ℕ) (P : ℕ → Type 0) where

@@ -94,7 +94,7 @@ module _ (next : ℕ → Place) (falls : Falls next) where
             ]
       ])
 
-  -- a route goes by one child of a section at the most
+  -- a route goes by at most one child of a section
   pub only_child : (s c d : ℕ) → next c ≡ At s → next d ≡ At s
       → (t : ℕ) → goes_by next (At c) t ≡ true → goes_by next (At d) t ≡ true → c ≡ d
   only_child s c d child other =

@@ -26,7 +26,8 @@ pub at-number : (s t : ℕ) → At s ≡ At t → s ≡ t
 at-number s t is = cc
 
 pub same-other : (s t : ℕ) → t ≢ s → same (At s) (At t) ≡ false
-same-other s t other = false_from_ne_true (same (At s) (At t)) (λ is. other (sym (at-number s t (same-true (At s) (At t) is))))
+same-other s t other =
+    false_from_ne_true (same (At s) (At t)) (λ is. other (sym (at-number s t (same-true (At s) (At t) is))))
 
 pub or-false : (b : Bool) → (b || false) ≡ b
 or-false true = refl

@@ -10,7 +10,7 @@ use Rattle.duct_definitions.specs.Designs.{size_beside, pair_of, loss_of, path_l
 use Rattle.duct_definitions.proofs.TreeLaws.{earlier}
 use Rattle.duct_definitions.proofs.WayLaws.{way-at_fan, way-beside}
 use Rattle.design_laws.proofs.Ways.{neighbour_side}
-use Rattle.least_laws.specs.LeastIn.{least_in}
+use Rattle.least_laws.specs.LeastFromChildren.{least_in}
 use Rattle.least_laws.specs.Choosing.{Attains, left_beside, IsDescent}
 use Rattle.least_laws.proofs.PriceLaws.{some-there}
 use Rattle.least_laws.proofs.Ducts.{loss, sum_from}
