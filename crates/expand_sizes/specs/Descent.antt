@@ -1,16 +1,10 @@
 -- The way from the fan outwards.
---   size_towards sizes neighbour           the size of the neighbour, 0 at the fan
 --   left_towards budget rests neighbour    what is left beyond the neighbour, and at the fan the budget
 --   CanBeSized net s g left                section s has a least price beside size g within what is left
 use Rattle.std.specs.Prelude.{ℕ, ◌<◌, ◌≤◌, List, Option, Some, None, slice_index, IsSome}
 use Rattle.duct_definitions.specs.Tree.{IsTree, section_count}
 use Rattle.duct_definitions.specs.Network.{Network, columns, cap}
 use Rattle.least_laws.specs.LeastIn.{least_in}
-
--- the size of the neighbour, where sizes has those of the sections before; 0 at the fan
-abbrev pub size_towards : List ℕ → Option ℕ → ℕ
-size_towards sizes None = 0
-size_towards sizes (Some n) = slice_index sizes n
 
 -- what is left beyond the neighbour, and at the fan the side's budget
 abbrev pub left_towards : ℕ → List ℕ → Option ℕ → ℕ
