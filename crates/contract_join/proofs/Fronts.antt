@@ -1,5 +1,6 @@
 -- Lists of fronts, and bounds on their costs.
 use Rattle.std.proofs.Common.{◌≡◌, ℕ, ◌*◌, ◌<◌, ◌≤◌, refl, sym, ◌∙◌, arith, subst, List, [], ◌∷◌, Option, Some, None, length, get_or, max}
+use Rattle.duct_definitions.specs.declared.design.NetFan.{NetFan}
 use Rattle.std.specs.Prelude.{All, IfSome, fold, map}
 use Rattle.std.specs.Option.{ForSome}
 use Rattle.std.proofs.lemmas.List.{get_or_default}
@@ -48,8 +49,14 @@ fold_max-le (x ∷ xs) a most low all =
     let first = All-head (λ y. y ≤ most) x xs all in
     fold_max-le xs (max a x) most (omega arith) (All-tail (λ y. y ≤ most) x xs all)
 
+pressures-le : (fans : List NetFan) → All IsFan fans → fold max 0 (map (λ fan. fan.pressure) fans) ≤ MAX_PRESSURE
+pressures-le fans are =
+    fold_max-le (map (λ fan. fan.pressure) fans) 0 MAX_PRESSURE (omega arith)
+    (All-map (λ x. x ≤ MAX_PRESSURE) (λ fan. fan.pressure) fans
+    (All-weaker IsFan (λ fan. fan.pressure ≤ MAX_PRESSURE) (λ fan is. is.pressure) fans are))
+
 pub cap-le : (net : Network) → IsNetwork net → cap net ≤ MAX_PRESSURE
 cap-le net valid =
-    fold_max-le (map (λ fan. fan.pressure) net.fans) 0 MAX_PRESSURE (omega arith)
-    (All-map (λ x. x ≤ MAX_PRESSURE) (λ fan. fan.pressure) net.fans
-    (All-weaker IsFan (λ fan. fan.pressure ≤ MAX_PRESSURE) (λ fan is. is.pressure) net.fans valid.fans))
+    let first = pressures-le net.fans valid.fans.bounds in
+    let second = pressures-le net.return_fans valid.return_fans.bounds in
+    omega arith

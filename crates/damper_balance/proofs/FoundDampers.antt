@@ -4,14 +4,14 @@ use Rattle.std.proofs.Math.Seq.{take-append_seam}
 use Rattle.std.specs.Prelude.{◌&&◌, slice_index}
 use Rattle.duct_units.specs.declared.side.Side.{Side}
 use Rattle.duct_definitions.specs.declared.design.Design.{Design}
-use Rattle.duct_definitions.specs.Tree.{Tree, IsTree, section_count, sections, neighbour, side, is_leaf, leaves}
+use Rattle.duct_definitions.specs.Tree.{Tree, IsTree, section_count, sections, neighbour, at_neighbour, side, is_leaf, leaves}
 use Rattle.duct_units.specs.Side.{same_side}
 use Rattle.duct_definitions.specs.Network.{Network}
 use Rattle.duct_definitions.specs.Designs.{path_loss, worst}
 use Rattle.duct_definitions.specs.Dampers.{slack, slack_beside, damper}
 use Rattle.duct_definitions.proofs.TreeLaws.{earlier}
 use Rattle.design_laws.proofs.Among.{Among, Among-filtered, below-range}
-use Rattle.damper_balance.specs.SectionNumbers.{ListsEach, number_at, greatest_at}
+use Rattle.damper_balance.specs.SectionNumbers.{ListsEach, greatest_at}
 use Rattle.damper_balance.proofs.NumberLists.{greatest_at-each}
 use Rattle.damper_balance.proofs.PassLemmas.{less_beside}
 use Rattle.damper_balance.proofs.FoundPathLaws.{slack_beside-le}
@@ -43,16 +43,16 @@ worst_found net d x t losses found same each is =
     ∙ greatest_at-each losses (path_loss net d) 0 (leaves net.tree x) (λ s among. each.each s (leaf_within net.tree x s among))
 
 slack_at : (net : Network) (d : Design) (slacks : List ℕ) (s : ℕ) → IsTree net.tree → ListsEach net.tree (slack net d) slacks
-    → s < section_count net.tree → number_at slacks (neighbour net.tree s) ≡ slack_beside net d (neighbour net.tree s)
+    → s < section_count net.tree → at_neighbour (slice_index slacks) (neighbour net.tree s) ≡ slack_beside net d (neighbour net.tree s)
 slack_at net d slacks s tree each within =
-    elim (neighbour net.tree s) as (λ (o : Option ℕ). neighbour net.tree s ≡ o → number_at slacks o ≡ slack_beside net d o) [
+    elim (neighbour net.tree s) as (λ (o : Option ℕ). neighbour net.tree s ≡ o → at_neighbour (slice_index slacks) o ≡ slack_beside net d o) [
       | None ↦ λ next. refl
       | Some n ↦ λ next. let low = earlier net.tree s n tree within next in each.each n (omega arith)
     ] refl
 
 -- no neighbour has more slack
 pub slacks_fit : (net : Network) (d : Design) (slacks : List ℕ) → IsTree net.tree → ListsEach net.tree (slack net d) slacks
-    → (s : ℕ) → s < section_count net.tree → number_at slacks (neighbour net.tree s) ≤ slice_index slacks s
+    → (s : ℕ) → s < section_count net.tree → at_neighbour (slice_index slacks) (neighbour net.tree s) ≤ slice_index slacks s
 slacks_fit net d slacks tree each s within =
     let own : slice_index slacks s ≡ slack net d s = each.each s within in
     let beside = slack_at net d slacks s tree each within in
@@ -68,6 +68,6 @@ dampers_found net d slacks found tree each less = record {
   count = less.count;
   each = λ s within.
       less.each s within
-      ∙ ap (λ (n : ℕ). n - number_at slacks (neighbour net.tree s)) (each.each s within)
+      ∙ ap (λ (n : ℕ). n - at_neighbour (slice_index slacks) (neighbour net.tree s)) (each.each s within)
       ∙ ap (λ (n : ℕ). slack net d s - n) (slack_at net d slacks s tree each within);
 }

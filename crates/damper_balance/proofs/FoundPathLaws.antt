@@ -1,23 +1,23 @@
 -- What slacks, heads and the dampers that are found make of each path.
-use Rattle.std.proofs.Common.{◌≡◌, ℕ, ◌+◌, ◌-◌, ◌<◌, ◌≤◌, inl, inr, List, [], ◌∷◌, map, suc, Option, Some, None, refl, ap, ◌∙◌, sym, arith}
+use Rattle.std.proofs.Common.{◌≡◌, ℕ, ◌+◌, ◌-◌, ◌<◌, ◌≤◌, inl, inr, List, [], ◌∷◌, map, suc, Option, Some, None, refl, ap, ◌∙◌, sym, subst, arith}
 use Rattle.std.proofs.lemmas.List.Sums.{sum_by-cons}
 use Rattle.std.specs.Prelude.{sum_by, slice_index}
 use Rattle.duct_units.specs.declared.side.Side.{Side}
 use Rattle.duct_units.specs.declared.side.Side.TheVariants.{Supply, Return}
 use Rattle.duct_definitions.specs.declared.design.Design.{Design}
 use Rattle.duct_definitions.specs.Tree.{Tree, IsTree, section_count, neighbour, side, way}
-use Rattle.duct_definitions.specs.Network.{Network, IsNetwork, fan_at}
-use Rattle.duct_definitions.specs.Designs.{Meets, pair_of, loss_of, path_loss}
-use Rattle.duct_definitions.specs.Dampers.{head, least_of, leaves_beyond, slack, slack_beside, damper}
+use Rattle.duct_definitions.specs.Network.{Network, IsNetwork, fan_at, return_fan_at}
+use Rattle.duct_definitions.specs.Designs.{Covers, Meets, pair_of, loss_of, path_loss}
+use Rattle.duct_definitions.specs.Dampers.{head, head_with, least_of, leaves_beyond, slack, slack_beside, damper}
 use Rattle.duct_definitions.proofs.TreeLaws.{earlier}
-use Rattle.duct_definitions.specs.Balance.{throttled_loss}
+use Rattle.duct_definitions.specs.Balance.{throttled_loss, PathsTake, IsBalancedWith}
 use Rattle.design_laws.proofs.Among.{Among}
 use Rattle.design_laws.proofs.Ways.{along_way}
 use Rattle.design_laws.proofs.Beyond.{is_within}
-use Rattle.design_laws.proofs.Throttled.{paths_take_heads, paths_take_pressure, supply_takes_pressure}
+use Rattle.design_laws.proofs.Throttled.{paths_take_heads, paths_balanced}
 use Rattle.damper_balance.specs.declared.dampers.Dampers.{Dampers}
 use Rattle.damper_balance.specs.Balance.{AreDampers}
-use Rattle.damper_balance.specs.FoundPaths.{PathsLeaveSlack, DampersTakeSlack, AreWithinPressure, head_found, loss_with, FoundTakeHeads, FoundTakePressure, FoundSupplyTakesPressure}
+use Rattle.damper_balance.specs.FoundPaths.{PathsLeaveSlack, DampersTakeSlack, return_pressure, pressure_on, AreWithinPressure, head_found, loss_with, FoundTake, FoundTakeHeads, FoundBalancedWith, IsFoundBalanced}
 use Rattle.damper_balance.proofs.Slacks.{slack-leaf, slack_rises, worst-le-head, path-le-head}
 
 -- a part and what it leaves
@@ -48,9 +48,18 @@ least_of-bound f most [] each = omega arith
 least_of-bound f most (x ∷ []) each = each x
 least_of-bound f most (x ∷ y ∷ ys) each = let low = each x in let others : ℕ = least_of (map f (y ∷ ys)) in omega arith
 
-head-le : (net : Network) (d : Design) (x : Side) → Meets net d → head net d x ≤ (fan_at net d.fan).pressure
-head-le net d Supply meets = omega arith
-head-le net d Return meets = let covered = meets.pressure in omega arith
+head_with-le : (net : Network) (d : Design) (o : Option ℕ) → Covers net d o
+    → head_with net d o Return ≤ return_pressure net d.fan o
+head_with-le net d None covered = omega arith
+head_with-le net d (Some i) covered = omega arith
+
+supply_head-le : (net : Network) (d : Design) (o : Option ℕ) → head_with net d o Supply ≤ (fan_at net d.fan).pressure
+supply_head-le net d None = omega arith
+supply_head-le net d (Some i) = omega arith
+
+head-le : (net : Network) (d : Design) (x : Side) → Meets net d → head net d x ≤ pressure_on net d x
+head-le net d Supply meets = supply_head-le net d d.back
+head-le net d Return meets = head_with-le net d d.back meets.pressure
 
 less_is_less : (a b most : ℕ) → a ≤ most → a - b ≤ most
 less_is_less a b most within = omega arith
@@ -60,7 +69,7 @@ within_pressure net d meets = record {
   worst = λ x. worst-le-head net d x meets;
   head = λ x. head-le net d x meets;
   damper = λ s.
-      let pressure : ℕ = (fan_at net d.fan).pressure in
+      let pressure : ℕ = pressure_on net d (side net.tree s) in
       less_is_less (slack net d s) (slack_beside net d (neighbour net.tree s)) pressure
       (least_of-bound (λ leaf. head net d (side net.tree s) - path_loss net d leaf) pressure (leaves_beyond net.tree s)
       (λ leaf. less_is_less (head net d (side net.tree s)) (path_loss net d leaf) pressure (head-le net d (side net.tree s) meets)));
@@ -94,28 +103,38 @@ head_is : (net : Network) (d : Design) (found : Dampers) (x : Side) → AreDampe
 head_is net d found Supply are = are.supply_head
 head_is net d found Return are = are.return_head
 
+-- where paths take a pressure with the dampers they do so with those that are found
+found_take : (net : Network) (d : Design) (found : Dampers) (x : Side) (pressure : ℕ) → IsTree net.tree → AreDampers net d found
+    → PathsTake net d x pressure → FoundTake net d found x pressure
+found_take net d found x pressure tree are take leaf of_side =
+    loss_with-is net d found leaf tree (is_within net.tree leaf of_side.leaf) are ∙ take leaf of_side
+
 pub found_take_heads : (net : Network) (d : Design) (found : Dampers) → IsNetwork net → Meets net d → AreDampers net d found
     → FoundTakeHeads net d found
-found_take_heads net d found valid meets are x leaf of_side =
-    loss_with-is net d found leaf valid.tree (is_within net.tree leaf of_side.leaf) are
-    ∙ paths_take_heads net d valid meets x leaf of_side
-    ∙ sym (head_is net d found x are)
+found_take_heads net d found valid meets are x =
+    subst (FoundTake net d found x) (sym (head_is net d found x are))
+    (found_take net d found x (head net d x) valid.tree are (paths_take_heads net d valid meets x))
 
-pub found_take_pressure : (net : Network) (d : Design) (found : Dampers) → IsNetwork net → Meets net d → AreDampers net d found
-    → FoundTakePressure net d found
-found_take_pressure net d found valid meets are supply back of_supply of_return =
-    let one = loss_with-is net d found supply valid.tree (is_within net.tree supply of_supply.leaf) are in
-    let other = loss_with-is net d found back valid.tree (is_within net.tree back of_return.leaf) are in
-    ap (λ (n : ℕ). n + loss_with net d found back) one
-    ∙ ap (λ (n : ℕ). throttled_loss net d supply + n) other
-    ∙ paths_take_pressure net d valid meets supply back of_supply of_return
+balanced_with : (net : Network) (d : Design) (found : Dampers) (o : Option ℕ) → IsTree net.tree → AreDampers net d found
+    → IsBalancedWith net d o → FoundBalancedWith net d found o
+balanced_with net d found None tree are balanced = record {
+  both = λ supply back of_supply of_return.
+      let one = loss_with-is net d found supply tree (is_within net.tree supply of_supply.leaf) are in
+      let other = loss_with-is net d found back tree (is_within net.tree back of_return.leaf) are in
+      ap (λ (n : ℕ). n + loss_with net d found back) one
+      ∙ ap (λ (n : ℕ). throttled_loss net d supply + n) other
+      ∙ balanced.both supply back of_supply of_return;
+  alone = λ none. found_take net d found Supply (fan_at net d.fan).pressure tree are (balanced.alone none);
+}
+balanced_with net d found (Some i) tree are balanced = record {
+  supply = found_take net d found Supply (fan_at net d.fan).pressure tree are balanced.supply;
+  back = found_take net d found Return (return_fan_at net i).pressure tree are balanced.back;
+}
 
-pub found_supply_takes_pressure : (net : Network) (d : Design) (found : Dampers) → IsNetwork net → Meets net d
-    → AreDampers net d found → FoundSupplyTakesPressure net d found
-found_supply_takes_pressure net d found valid meets are none leaf of_supply =
-    loss_with-is net d found leaf valid.tree (is_within net.tree leaf of_supply.leaf) are
-    ∙ supply_takes_pressure net d valid meets none leaf of_supply
+pub found_balanced : (net : Network) (d : Design) (found : Dampers) → IsNetwork net → Meets net d → AreDampers net d found
+    → IsFoundBalanced net d found
+found_balanced net d found valid meets are = balanced_with net d found d.back valid.tree are (paths_balanced net d valid meets)
 
 pub ruleset of_slacks = (paths_leave_slack, dampers_take_slack)
 
-pub ruleset of_found = (found_take_heads, found_take_pressure, found_supply_takes_pressure)
+pub ruleset of_found = (found_take_heads, found_balanced)

@@ -26,19 +26,23 @@ written-none t before numbers count = record {
   rest = λ s _ _. refl;
 }
 
+-- the written number is what it has to be, and so are the others
+set_is : (f : ℕ → ℕ) (numbers : List ℕ) (k number s : ℕ) → k < length numbers → number ≡ f k
+    → (s ≢ k → get_or numbers s 0 ≡ f s) → get_or (set numbers k number) s 0 ≡ f s
+set_is f numbers k number s here is others =
+    elim (cases_eq s k) [
+      | inl same ↦ subst (λ (j : ℕ). get_or (set numbers k number) j 0 ≡ f j) (sym same) (get_or-set_same numbers k number 0 here ∙ is)
+      | inr other ↦ get_or-set_other numbers k s number 0 other ∙ others other
+    ]
+
 -- one number more, on the way up
 pub written-up : (t : Tree) (before after : ℕ → ℕ) (k : ℕ) (numbers : List ℕ) (number : ℕ) → k < section_count t
     → IsWrittenTo t before after k numbers → number ≡ before k → IsWrittenTo t before after (k + 1) (set numbers k number)
 written-up t before after k numbers number within to is =
     let count = to.count in
-    let here : k < length numbers = omega arith in
     record {
       count = length-set numbers k number ∙ to.count;
-      first = λ s low inside.
-          elim (cases_eq s k) [
-            | inl same ↦ subst (λ (j : ℕ). get_or (set numbers k number) j 0 ≡ before j) (sym same) (get_or-set_same numbers k number 0 here ∙ is)
-            | inr other ↦ get_or-set_other numbers k s number 0 other ∙ to.first s (omega arith) inside
-          ];
+      first = λ s low inside. set_is before numbers k number s (omega arith) is (λ other. to.first s (omega arith) inside);
       rest = λ s high inside.
           let other : s ≢ k = omega arith in
           get_or-set_other numbers k s number 0 other ∙ to.rest s (omega arith) inside;
@@ -49,17 +53,12 @@ pub written-down : (t : Tree) (before after : ℕ → ℕ) (j k : ℕ) (numbers 
     → IsWrittenTo t before after j numbers → number ≡ after k → IsWrittenTo t before after k (set numbers k number)
 written-down t before after j k numbers number within next to is =
     let count = to.count in
-    let here : k < length numbers = omega arith in
     record {
       count = length-set numbers k number ∙ to.count;
       first = λ s low inside.
           let other : s ≢ k = omega arith in
           get_or-set_other numbers k s number 0 other ∙ to.first s (omega arith) inside;
-      rest = λ s high inside.
-          elim (cases_eq s k) [
-            | inl same ↦ subst (λ (j : ℕ). get_or (set numbers k number) j 0 ≡ after j) (sym same) (get_or-set_same numbers k number 0 here ∙ is)
-            | inr other ↦ get_or-set_other numbers k s number 0 other ∙ to.rest s (omega arith) inside
-          ];
+      rest = λ s high inside. set_is after numbers k number s (omega arith) is (λ other. to.rest s (omega arith) inside);
     }
 
 pub all_before : (t : Tree) (before after : ℕ → ℕ) (k : ℕ) (numbers : List ℕ) → section_count t ≤ k

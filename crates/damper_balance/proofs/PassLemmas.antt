@@ -4,38 +4,33 @@ use Rattle.std.proofs.lemmas.Bool.{and_from, lt-ltb}
 use Rattle.std.specs.Prelude.{◌&&◌, ◌==◌, nat_lt, slice_index, sum_by}
 use Rattle.duct_definitions.specs.declared.design.Design.{Design}
 use Rattle.duct_definitions.specs.declared.limits.TheConstants.{MAX_SECTIONS, MAX_LOSS}
-use Rattle.duct_definitions.specs.Tree.{Tree, IsTree, section_count, neighbour, side, children, is_leaf, from_neighbour, way}
+use Rattle.duct_definitions.specs.Tree.{Tree, IsTree, section_count, neighbour, at_neighbour, side, children, is_leaf, from_neighbour, way}
 use Rattle.duct_definitions.specs.Network.{Network, IsNetwork}
 use Rattle.duct_definitions.specs.Designs.{Meets, pair_of, loss_of, path_loss}
 use Rattle.duct_definitions.specs.Dampers.{head, least_of, slack}
 use Rattle.duct_definitions.proofs.TreeLaws.{earlier}
 use Rattle.net_model.proofs.Bounds.{path_loss-first, path_loss-le}
 use Rattle.design_laws.proofs.Among.{Among}
-use Rattle.damper_balance.specs.SectionNumbers.{number_at, least_at}
+use Rattle.damper_balance.specs.SectionNumbers.{least_at}
 use Rattle.damper_balance.proofs.LeafBeyond.{child_is}
 use Rattle.damper_balance.proofs.Slacks.{slack-leaf, slack-inner, path-le-head}
 use Rattle.damper_balance.proofs.NumberLists.{IsWrittenTo, written-down, least_at-each}
 
--- what is said of the neighbour, 0 at the fan
-abbrev pub of_neighbour : (ℕ → ℕ) → Option ℕ → ℕ
-of_neighbour f None = 0
-of_neighbour f (Some n) = f n
-
 -- a neighbour stands earlier, so a walk that has come to its section has its first number
 pub number_beside : (t : Tree) (before after : ℕ → ℕ) (j s : ℕ) (numbers : List ℕ) → IsTree t → s < section_count t → s ≤ j
-    → IsWrittenTo t before after j numbers → number_at numbers (neighbour t s) ≡ of_neighbour before (neighbour t s)
+    → IsWrittenTo t before after j numbers → at_neighbour (slice_index numbers) (neighbour t s) ≡ at_neighbour before (neighbour t s)
 number_beside t before after j s numbers tree within first to =
-    elim (neighbour t s) as (λ (o : Option ℕ). neighbour t s ≡ o → number_at numbers o ≡ of_neighbour before o) [
+    elim (neighbour t s) as (λ (o : Option ℕ). neighbour t s ≡ o → at_neighbour (slice_index numbers) o ≡ at_neighbour before o) [
       | None ↦ λ next. refl
       | Some n ↦ λ next. let low = earlier t s n tree within next in to.first n (omega arith) (omega arith)
     ] refl
 
 pub path_loss-beside : (net : Network) (d : Design) (s : ℕ) → IsNetwork net → s < section_count net.tree
-    → path_loss net d s ≡ loss_of (pair_of net d s) + of_neighbour (path_loss net d) (neighbour net.tree s)
+    → path_loss net d s ≡ loss_of (pair_of net d s) + at_neighbour (path_loss net d) (neighbour net.tree s)
 path_loss-beside net d s valid within =
     let loss : ℕ → ℕ = λ x. loss_of (pair_of net d x) in
-    let rest : sum_by loss (from_neighbour (way net.tree) (neighbour net.tree s)) ≡ of_neighbour (path_loss net d) (neighbour net.tree s) =
-    elim (neighbour net.tree s) as (λ (o : Option ℕ). sum_by loss (from_neighbour (way net.tree) o) ≡ of_neighbour (path_loss net d) o) [
+    let rest : sum_by loss (from_neighbour (way net.tree) (neighbour net.tree s)) ≡ at_neighbour (path_loss net d) (neighbour net.tree s) =
+    elim (neighbour net.tree s) as (λ (o : Option ℕ). sum_by loss (from_neighbour (way net.tree) o) ≡ at_neighbour (path_loss net d) o) [
       | None ↦ refl
       | Some n ↦ refl
     ] in
@@ -43,7 +38,7 @@ path_loss-beside net d s valid within =
 
 pub next_loss : (net : Network) (d : Design) (after : ℕ → ℕ) (s : ℕ) (losses : List ℕ) (loss beside : ℕ) → IsNetwork net
     → s < section_count net.tree → IsWrittenTo net.tree (path_loss net d) after s losses → loss ≡ loss_of (pair_of net d s)
-    → beside ≡ number_at losses (neighbour net.tree s) → loss + beside ≡ path_loss net d s
+    → beside ≡ at_neighbour (slice_index losses) (neighbour net.tree s) → loss + beside ≡ path_loss net d s
 next_loss net d after s losses loss beside valid within to own is =
     let next = is ∙ number_beside net.tree (path_loss net d) after s s losses valid.tree within (omega arith) to in
     ap (λ (n : ℕ). n + beside) own ∙ ap (λ (n : ℕ). loss_of (pair_of net d s) + n) next ∙ sym (path_loss-beside net d s valid within)
@@ -105,16 +100,16 @@ slack_of_leaf net d j s numbers most tree within next to is whole =
 
 -- the number of a section less its neighbour's
 abbrev pub less_beside : Tree → List ℕ → ℕ → ℕ
-less_beside t numbers s = slice_index numbers s - number_at numbers (neighbour t s)
+less_beside t numbers s = slice_index numbers s - at_neighbour (slice_index numbers) (neighbour t s)
 
 pub next_less : (t : Tree) (old numbers : List ℕ) (j s beside : ℕ) → IsTree t → s < section_count t → j ≡ s + 1
-    → IsWrittenTo t (λ x. slice_index old x) (less_beside t old) j numbers → beside ≡ number_at numbers (neighbour t s)
+    → IsWrittenTo t (λ x. slice_index old x) (less_beside t old) j numbers → beside ≡ at_neighbour (slice_index numbers) (neighbour t s)
     → IsWrittenTo t (λ x. slice_index old x) (less_beside t old) s (set numbers s (get_or numbers s 0 - beside))
 next_less t old numbers j s beside tree within next to is =
     let first : ℕ → ℕ = λ x. slice_index old x in
-    let same : number_at old (neighbour t s) ≡ of_neighbour first (neighbour t s) =
-    elim (neighbour t s) as (λ (o : Option ℕ). number_at old o ≡ of_neighbour first o) [ None ↦ refl | Some n ↦ refl ] in
-    let taken : beside ≡ number_at old (neighbour t s) =
+    let same : at_neighbour (slice_index old) (neighbour t s) ≡ at_neighbour first (neighbour t s) =
+    elim (neighbour t s) as (λ (o : Option ℕ). at_neighbour (slice_index old) o ≡ at_neighbour first o) [ None ↦ refl | Some n ↦ refl ] in
+    let taken : beside ≡ at_neighbour (slice_index old) (neighbour t s) =
     is ∙ number_beside t first (less_beside t old) j s numbers tree within (omega arith) to ∙ sym same in
     let own : get_or numbers s 0 ≡ slice_index old s = to.first s (omega arith) within in
     let number : get_or numbers s 0 - beside ≡ less_beside t old s =

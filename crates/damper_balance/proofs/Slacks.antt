@@ -1,13 +1,13 @@
 -- Slacks: that of a leaf is what its path leaves of its side's head, that of an inner section the least of its
 -- children's. So a neighbour's slack is at most the section's.
-use Rattle.std.proofs.Common.{◌≡◌, ℕ, ◌-◌, ◌<◌, ◌≤◌, inl, List, map, true, Some, refl, ap, ◌∙◌, sym, subst, arith}
+use Rattle.std.proofs.Common.{◌≡◌, ℕ, ◌-◌, ◌<◌, ◌≤◌, inl, List, map, true, Option, Some, None, refl, ap, ◌∙◌, sym, subst, arith}
 use Rattle.duct_units.specs.declared.side.Side.{Side}
 use Rattle.duct_units.specs.declared.side.Side.TheVariants.{Supply, Return}
 use Rattle.duct_definitions.specs.declared.design.Design.{Design}
 use Rattle.duct_definitions.specs.Tree.{IsTree, section_count, neighbour, side, children, is_leaf, leaves}
 use Rattle.duct_definitions.specs.Network.{Network}
-use Rattle.duct_definitions.specs.Designs.{Meets, path_loss, worst}
-use Rattle.duct_definitions.specs.Dampers.{head, least_of, leaves_beyond, slack}
+use Rattle.duct_definitions.specs.Designs.{Covers, Meets, path_loss, worst}
+use Rattle.duct_definitions.specs.Dampers.{head, head_with, least_of, leaves_beyond, slack}
 use Rattle.design_laws.proofs.Among.{Among, le-max, least_of-le, least_of-reached}
 use Rattle.design_laws.proofs.Beyond.{IsBeyond, IsBeyond-from, IsBeyond-way, Among-leaves, Among-leaves_beyond, alone_on_way, is_within}
 use Rattle.damper_balance.proofs.LeafBeyond.{child_is, is_child, leaf_beyond, child_before, IsBeyond-neighbour}
@@ -82,10 +82,15 @@ slack_rises net d s n tree within next =
     subst (λ (least : ℕ). least ≤ slack net d s) (sym (slack-inner net d n s tree child))
     (least_of-le (slack net d) s (children net.tree n) child)
 
--- a side loses its head at the most
+covered-le : (net : Network) (d : Design) (o : Option ℕ) (x : Side) → Covers net d o → worst net d x ≤ head_with net d o x
+covered-le net d None Supply covered = omega arith
+covered-le net d None Return covered = same_le (worst net d Return)
+covered-le net d (Some i) Supply covered = covered.0
+covered-le net d (Some i) Return covered = covered.1
+
+-- a side loses at most its head
 pub worst-le-head : (net : Network) (d : Design) (x : Side) → Meets net d → worst net d x ≤ head net d x
-worst-le-head net d Supply meets = let covered = meets.pressure in omega arith
-worst-le-head net d Return meets = same_le (worst net d Return)
+worst-le-head net d x meets = covered-le net d d.back x meets.pressure
 
 pub path-le-head : (net : Network) (d : Design) (leaf : ℕ) → Meets net d → is_leaf net.tree leaf ≡ true
     → path_loss net d leaf ≤ head net d (side net.tree leaf)

@@ -1,6 +1,5 @@
 -- Lists with one number for each section.
 --   ListsEach t f numbers    the number of section s is f s
---   number_at numbers o      the number of a section that may not be there, 0 of none
 --   greatest_at numbers ss   the greatest number of the sections, 0 of none
 --   least_at numbers ss      the least number of the sections, none of none
 use Rattle.std.specs.Prelude.{◌≡◌, ℕ, ◌<◌, max, List, length, map, fold, Option, Some, None, slice_index}
@@ -12,12 +11,10 @@ pub record ListsEach (t : Tree) (f : ℕ → ℕ) (numbers : List ℕ) : Type 0 
   pub count : length numbers ≡ section_count t
   pub each : (s : ℕ) → s < section_count t → slice_index numbers s ≡ f s
 
-abbrev pub number_at : List ℕ → Option ℕ → ℕ
-number_at numbers None = 0
-number_at numbers (Some s) = slice_index numbers s
-
+-- the greatest number of the sections, 0 of none
 abbrev pub greatest_at : List ℕ → List ℕ → ℕ
 greatest_at numbers ss = fold max 0 (map (λ s. slice_index numbers s) ss)
 
+-- the least number of the sections, none of none
 abbrev pub least_at : List ℕ → List ℕ → Option ℕ
 least_at numbers ss = fold (λ least s. lesser least (Some (slice_index numbers s))) None ss

@@ -1,5 +1,5 @@
-//! Heads and dampers of a design: how the fan's pressure is shared, and what each section throttles so that every
-//! path takes its head.
+//! Heads and dampers of a design: what each side has of the fans' pressures, and what each section throttles so that
+//! every path takes its head.
 //!
 //! Losses and pressures are in dPa. Sections count from 0, in file order (docs/RULES.md, "Heads and dampers").
 #![tactic(auto)]

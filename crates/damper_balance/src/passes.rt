@@ -3,11 +3,11 @@
 ghost use Rattle.std.specs.Prelude.{◌≡◌, ◌≤◌, ◌<◌, ◌-◌, ℕ, length, slice_index, All, Some};
 ghost use Rattle.duct_units.specs.declared.side.Side.TheVariants.{Return};
 ghost use Rattle.duct_units.specs.Prices.{lesser};
-ghost use Rattle.duct_definitions.specs.Tree.{section_count, neighbour, side as side_of, leaves};
+ghost use Rattle.duct_definitions.specs.Tree.{section_count, neighbour, at_neighbour, side as side_of, leaves};
 ghost use Rattle.duct_units.specs.Side.{same_side};
 ghost use Rattle.duct_definitions.specs.Designs.{Meets, pair_of, loss_of, path_loss, worst};
 ghost use Rattle.duct_definitions.specs.Dampers.{head, slack};
-ghost use Rattle.damper_balance.specs.SectionNumbers.{ListsEach, number_at, greatest_at, least_at};
+ghost use Rattle.damper_balance.specs.SectionNumbers.{ListsEach, greatest_at, least_at};
 
 use air_tree::AirTree;
 use duct_units::{Side, lesser};
@@ -30,7 +30,7 @@ pub fn path_losses(net: &Network, d: &Design, losses: &mut [u64])
 fn number_beside(tree: &AirTree, numbers: &[u64], s: u32) -> u64
     requires count { length numbers.now ≡ section_count tree.now }
     requires section { s < section_count tree.now }
-    ensures { result ≡ number_at numbers.now (neighbour tree.now s) }
+    ensures { result ≡ at_neighbour (slice_index numbers.now) (neighbour tree.now s) }
 {
     match tree.neighbour(s) {
         Some(n) => numbers[n as usize],
@@ -82,9 +82,21 @@ fn head_at(net: &Network, d: &Design, return_worst: u64, s: u32) -> u64
     requires section { s < section_count net.now.tree }
     ensures { result ≡ head net.now d.now (side_of net.now.tree s) }
 {
-    match net.tree().side(s) {
-        Side::Supply => net.fan(d.fan).pressure - return_worst,
-        Side::Return => return_worst,
+    head(net, d, return_worst, net.tree().side(s))
+}
+
+/// What each path of the side has to take. With one fan the return side has its worst loss, and the supply side the
+/// rest of the pressure; with a return fan each side has the pressure of its own fan.
+pub fn head(net: &Network, d: &Design, return_worst: u64, side: Side) -> u64
+    requires design { Meets net.now d.now }
+    requires back { return_worst ≡ worst net.now d.now Return }
+    ensures { result ≡ head net.now d.now side }
+{
+    match (d.back, side) {
+        (None, Side::Supply) => net.fan(d.fan).pressure - return_worst,
+        (None, Side::Return) => return_worst,
+        (Some(_), Side::Supply) => net.fan(d.fan).pressure,
+        (Some(i), Side::Return) => net.return_fan(i).pressure,
     }
 }
 
@@ -104,9 +116,9 @@ fn least_number(sections: &[u32], numbers: &[u64]) -> Option<u64>
 pub fn less_neighbours(tree: &AirTree, numbers: &mut [u64])
     requires count { length numbers.old ≡ section_count tree.now }
     requires fits { (s : ℕ) → s < section_count tree.now →
-        number_at numbers.old (neighbour tree.now s) ≤ slice_index numbers.old s }
+        at_neighbour (slice_index numbers.old) (neighbour tree.now s) ≤ slice_index numbers.old s }
     ensures { ListsEach tree.now
-        (λ s. slice_index numbers.old s - number_at numbers.old (neighbour tree.now s)) numbers.new }
+        (λ s. slice_index numbers.old s - at_neighbour (slice_index numbers.old) (neighbour tree.now s)) numbers.new }
 {
     for s in (0..tree.len()).rev() {
         numbers[s as usize] -= number_beside(tree, numbers, s);

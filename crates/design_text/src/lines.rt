@@ -1,11 +1,9 @@
 //! The text of a design, line by line.
-ghost use Rattle.std.specs.Prelude.{◌≡◌, ◌++◌, [], ◌∷◌, codes, IfOk, OnOk};
-ghost use Rattle.std.specs.Fmt.{decimal};
+ghost use Rattle.std.specs.Prelude.{◌≡◌, ◌++◌, codes, IfOk, OnOk};
 ghost use Rattle.std.specs.List.{flat_map};
-ghost use Rattle.duct_definitions.specs.DesignText.{text, heading, section_line};
-ghost use Rattle.duct_units.specs.Lines.{line};
+ghost use Rattle.duct_definitions.specs.DesignText.{text, form_of, heading, fan_line, first_fan, back_line, section_line};
 
-use duct_definitions::{Listed, ListedSection};
+use duct_definitions::{Listed, ListedFan, ListedSection};
 use duct_units::{List, Name, NoMemory};
 use std::alloc::Global;
 use text_lines::{Text, number};
@@ -15,8 +13,9 @@ pub(crate) fn text_of(alloc: Global, fields: &Listed) -> Result<List<u8>, NoMemo
     ensures { IfOk result (λ answer. answer ≡ text fields.now) }
 {
     let mut text = Text::new(alloc);
-    add_heading(&mut text, &fields.project)?;
+    add_heading(&mut text, form_of(&fields.back), &fields.project)?;
     add_fan(alloc, &mut text, fields)?;
+    add_back(alloc, &mut text, &fields.back)?;
     text.numbers(alloc, b"supply", &[fields.supply_worst, fields.supply_head])?;
     text.numbers(alloc, b"return", &[fields.return_worst, fields.return_head])?;
     add_sections(alloc, &mut text, fields.sections.as_slice())?;
@@ -25,23 +24,58 @@ pub(crate) fn text_of(alloc: Global, fields: &Listed) -> Result<List<u8>, NoMemo
     Ok(text.into_list())
 }
 
-/// The lines that each text begins with.
-pub(crate) fn add_heading(text: &mut Text, project: &Name) -> Result<(), NoMemory>
-    ensures { OnOk result (text.new ≡ text.old ++ heading project.now) }
+/// The form of a text: 1 with one fan, 2 with a return fan.
+fn form_of(back: &Option<ListedFan>) -> &'static [u8]
+    ensures { result.now ≡ form_of back.now }
 {
-    text.line(b"design", &[b"1"])?;
+    match back {
+        None => b"1",
+        Some(_) => b"2",
+    }
+}
+
+/// The lines that each text begins with.
+pub(crate) fn add_heading(text: &mut Text, form: &[u8], project: &Name) -> Result<(), NoMemory>
+    ensures { OnOk result (text.new ≡ text.old ++ heading form.now project.now) }
+{
+    text.line(b"design", &[form])?;
     text.line(b"project", &[project.bytes()])
 }
 
 fn add_fan(alloc: Global, text: &mut Text, fields: &Listed) -> Result<(), NoMemory>
-    ensures { OnOk result (text.new ≡ text.old
-        ++ line (codes "fan") (fields.now.fan ∷ decimal fields.now.pressure ∷ decimal fields.now.fan_cost ∷ [])) }
+    ensures { OnOk result (text.new ≡ text.old ++ fan_line (codes "fan") (first_fan fields.now)) }
 {
-    let pressure = number(alloc, fields.pressure)?;
-    let cost = number(alloc, fields.fan_cost)?;
+    let fan = ListedFan {
+        name: fields.fan,
+        pressure: fields.pressure,
+        cost: fields.fan_cost,
+    };
+    add_fan_line(alloc, text, b"fan", &fan)
+}
+
+/// The return fan's line, where there is one.
+fn add_back(alloc: Global, text: &mut Text, back: &Option<ListedFan>) -> Result<(), NoMemory>
+    ensures { OnOk result (text.new ≡ text.old ++ back_line back.now) }
+{
+    match back {
+        Some(fan) => add_fan_line(alloc, text, b"return-fan", fan),
+        None => Ok(()),
+    }
+}
+
+fn add_fan_line(
+    alloc: Global,
+    text: &mut Text,
+    first: &[u8],
+    fan: &ListedFan,
+) -> Result<(), NoMemory>
+    ensures { OnOk result (text.new ≡ text.old ++ fan_line first.now fan.now) }
+{
+    let pressure = number(alloc, fan.pressure)?;
+    let cost = number(alloc, fan.cost)?;
     text.line(
-        b"fan",
-        &[fields.fan.bytes(), pressure.as_bytes(), cost.as_bytes()],
+        first,
+        &[fan.name.bytes(), pressure.as_bytes(), cost.as_bytes()],
     )
 }
 

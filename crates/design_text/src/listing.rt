@@ -1,16 +1,16 @@
 //! The fields of a printed design.
 ghost use Rattle.std.specs.Prelude.{◌≡◌, ◌<◌, map, IfOk};
 ghost use Rattle.duct_definitions.specs.Tree.{section_count, sections};
-ghost use Rattle.duct_definitions.specs.Designs.{Meets};
+ghost use Rattle.duct_definitions.specs.Designs.{Fits, Meets};
 ghost use Rattle.duct_definitions.specs.Dampers.{damper as damper_of};
-ghost use Rattle.duct_definitions.specs.DesignText.{listed, listed_section};
+ghost use Rattle.duct_definitions.specs.DesignText.{listed, listed_fan, listed_back, listed_section};
 ghost use Rattle.damper_balance.specs.Balance.{AreDampers};
 ghost use Rattle.damper_balance.specs.SectionNumbers.{ListsEach};
 
 use damper_balance::Dampers;
-use duct_definitions::{Listed, ListedSection};
+use duct_definitions::{Listed, ListedFan, ListedSection};
 use duct_units::{List, NoMemory};
-use net_model::{Design, Network, cost, loss_at, price_at};
+use net_model::{Design, NetFan, Network, cost, loss_at, price_at};
 use std::alloc::Global;
 
 /// The fields of a design that meets the rules, with its dampers and its cost.
@@ -30,6 +30,7 @@ pub(crate) fn listed(
         fan: fan.name,
         pressure: fan.pressure,
         fan_cost: fan.cost,
+        back: listed_back(net, d),
         supply_worst: dampers.supply_worst,
         supply_head: dampers.supply_head,
         return_worst: dampers.return_worst,
@@ -37,6 +38,28 @@ pub(crate) fn listed(
         sections: listed_sections(alloc, net, d, dampers.damper.as_slice())?,
         total: cost(net, d),
     })
+}
+
+/// The fields of the return fan's line, where there is one.
+fn listed_back(net: &Network, d: &Design) -> Option<ListedFan>
+    requires { Fits net.now d.now }
+    ensures { result ≡ listed_back net.now d.now.back }
+{
+    match d.back {
+        None => None,
+        Some(i) => Some(listed_fan(&net.return_fan(i))),
+    }
+}
+
+/// The fields of the line of a fan.
+fn listed_fan(fan: &NetFan) -> ListedFan
+    ensures { result ≡ listed_fan fan.now }
+{
+    ListedFan {
+        name: fan.name,
+        pressure: fan.pressure,
+        cost: fan.cost,
+    }
 }
 
 /// The fields of each section's line; `dampers` has one entry for each section.

@@ -31,7 +31,7 @@ pub fn print_none(alloc: Global, name: &Name) -> Result<List<u8>, NoMemory>
     ensures { IfOk result (λ answer. answer ≡ none_text name.now []) }
 {
     let mut text = Text::new(alloc);
-    add_heading(&mut text, name)?;
+    add_heading(&mut text, b"1", name)?;
     text.line(b"none", &[])?;
     text.line(b"end", &[])?;
     Ok(text.into_list())

@@ -9,7 +9,7 @@ use Rattle.least_laws.specs.LeastFromChildren.{least_with, least_in}
 use Rattle.least_laws.specs.Choosing.{Attains}
 use Rattle.least_laws.proofs.Attained.{size_attains}
 use Rattle.contract_join.specs.SectionFronts.{SectionData, AreFrontsOf}
-use Rattle.expand_sizes.specs.Outwards.{CanBeSized}
+use Rattle.expand_sizes.specs.Descent.{CanBeSized}
 use Rattle.expand_sizes.proofs.Entries.{entry-beside, entry-within, entry-least}
 
 same-price : (price least : Option ℕ) → option_eq nat_eq price least ≡ true → price ≡ least

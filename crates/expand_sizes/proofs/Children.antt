@@ -90,17 +90,17 @@ module _ {net : Network} {fronts : List SectionData} {s k budget : ℕ} {found :
 
   -- the next child, and its entry among the fronts
   module _ (less : i < length found) (entry : SectionData) (is : entry ≡ get_or fronts (get_or found i 0) entry) where
+    is_child : (get_or found i 0 < section_count net.tree) × (neighbour net.tree (get_or found i 0) ≡ Some s)
+    is_child =
+        subst (λ xs. i < length xs → (get_or xs i 0 < section_count net.tree) × (neighbour net.tree (get_or xs i 0) ≡ Some s))
+        (sym summed.found_is) (λ inside. (child-within net.tree s i 0 inside, child-is net.tree s i 0 inside)) less
+
     within : get_or found i 0 < section_count net.tree
-    within =
-        subst (λ xs. i < length xs → get_or xs i 0 < section_count net.tree) (sym summed.found_is)
-        (λ inside. child-within net.tree s i 0 inside) less
+    within = is_child.0
 
     beside : k < columns net (get_or found i 0)
     beside =
-        let same : i < length found → columns net (get_or found i 0) ≡ size_count net s =
-        subst (λ xs. i < length xs → columns net (get_or xs i 0) ≡ size_count net s) (sym summed.found_is)
-        (λ inside. columns-child net (get_or (children net.tree s) i 0) s (child-is net.tree s i 0 inside)) in
-        let many = same less in
+        let many = columns-child net (get_or found i 0) s is_child.1 in
         let in_range = summed.in_range in
         omega arith
 

@@ -2,5 +2,5 @@ pub mod Entries
 pub mod Children
 pub mod Attaining
 pub mod Budgets
-pub mod Outwards
+pub mod Sizing
 pub mod Whole

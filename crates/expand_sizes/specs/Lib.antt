@@ -1,2 +1,2 @@
 pub mod BestChoice
-pub mod Outwards
+pub mod Descent

@@ -1,11 +1,11 @@
 //! The way from the fan outwards, section by section.
-ghost use Rattle.std.specs.Prelude.{◌≡◌, ◌<◌, ◌≤◌, IfOk, length};
-ghost use Rattle.duct_definitions.specs.Tree.{section_count, neighbour, side};
+ghost use Rattle.std.specs.Prelude.{◌≡◌, ◌<◌, ◌≤◌, IfOk, length, slice_index};
+ghost use Rattle.duct_definitions.specs.Tree.{section_count, neighbour, at_neighbour, side};
 ghost use Rattle.duct_definitions.specs.Designs.{cost};
 ghost use Rattle.duct_definitions.specs.Order.{IsBest};
 ghost use Rattle.contract_join.specs.SectionFronts.{AreFrontsOf};
 ghost use Rattle.expand_sizes.specs.BestChoice.{IsBestChoice, budget_on};
-ghost use Rattle.expand_sizes.specs.Outwards.{size_towards, left_towards};
+ghost use Rattle.expand_sizes.specs.Descent.{left_towards};
 
 use crate::sizes::{first_attaining, loss_with};
 use contract_join::SectionFronts;
@@ -14,7 +14,7 @@ use fan_choice::Choice;
 use net_model::{Design, Network};
 use std::alloc::Global;
 
-/// The best design of the network: the chosen fan, and of each section the first size with the least price.
+/// The best design of the network: the chosen fans, and of each section the first size with the least price.
 ///
 /// Reserves once, at its start, and visits each section once with its sizes.
 pub fn expand(
@@ -39,6 +39,7 @@ pub fn expand(
     }
     Ok(Design {
         fan: choice.fan,
+        back: choice.back,
         sizes: List::from_vec(sizes),
     })
 }
@@ -58,7 +59,7 @@ fn towards_fan(net: &Network, choice: &Choice, s: u32, sizes: &[u32], rests: &[u
     requires section { s < section_count net.now.tree }
     requires sizes { length sizes.now ≡ s }
     requires rests { length rests.now ≡ s }
-    ensures size { result.size ≡ size_towards sizes.now (neighbour net.now.tree s) }
+    ensures size { result.size ≡ at_neighbour (slice_index sizes.now) (neighbour net.now.tree s) }
     ensures left { result.left
         ≡ left_towards (budget_on choice.now (side net.now.tree s)) rests.now (neighbour net.now.tree s) }
 {

@@ -10,7 +10,9 @@ ghost use Rattle.fan_choice.specs.Choice.{IsChoiceOf, NoneIsPriced};
 ghost use Rattle.expand_sizes.specs.BestChoice.{IsBestChoice};
 
 use fan_choice::Choice;
+use least_laws::{choice_depends_on_budgets_up_to_cap, no_cost_no_design};
 use net_model::Network;
+use net_model::laws::network_is_valid;
 use pareto_front::Front;
 
 /// What is chosen for fronts that tell the least price of each side is the best choice of the network.
@@ -21,7 +23,9 @@ pub fn choice_of_side_fronts_is_best(net: &Network, supply: &Front, back: &Front
         cheapest back.now budget ≡ side_least net.now return_side budget }
     requires choice { IsChoiceOf net.now supply.now back.now choice.now }
     ensures { IsBestChoice net.now choice.now }
-{}
+{
+    choice_depends_on_budgets_up_to_cap();
+}
 
 /// Where nothing is priced with fronts that tell the least price of each side, no design meets the rules.
 pub fn nothing_priced_is_no_design(net: &Network, supply: &Front, back: &Front)
@@ -32,5 +36,7 @@ pub fn nothing_priced_is_no_design(net: &Network, supply: &Front, back: &Front)
     requires unpriced { NoneIsPriced net.now supply.now back.now }
     ensures { NoneMeets net.now }
 {
-    let _ = net.tree();
+    network_is_valid(net);
+    choice_depends_on_budgets_up_to_cap();
+    no_cost_no_design();
 }

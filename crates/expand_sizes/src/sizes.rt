@@ -8,7 +8,7 @@ ghost use Rattle.least_laws.specs.Prices.{sum_of};
 ghost use Rattle.least_laws.specs.LeastFromChildren.{least_in, least_with};
 ghost use Rattle.least_laws.specs.Choosing.{Attains};
 ghost use Rattle.contract_join.specs.SectionFronts.{AreFrontsOf};
-ghost use Rattle.expand_sizes.specs.Outwards.{CanBeSized};
+ghost use Rattle.expand_sizes.specs.Descent.{CanBeSized};
 
 use contract_join::SectionFronts;
 use net_model::Network;

@@ -6,6 +6,7 @@
 #![tactic(auto)]
 
 mod designs;
+pub mod laws;
 mod network;
 
 pub use designs::{cost, loss_at, meets, path_loss, price_at, worst};

@@ -2,8 +2,9 @@
 //! expanding.
 //!
 //! Condensing gives each section the exact fronts of what budgets of pressure, dPa, buy at the least cost, cents, from
-//! the leaves towards the fan, and then each side its front. The fan is chosen over the fronts of the two sides.
-//! Expanding takes the sizes from the fan outwards, within what the fan leaves each side (docs/METHOD.md).
+//! the leaves towards the fan, and then each side its front. One fan, or a fan on each side, is chosen over the fronts
+//! of the two sides. Expanding takes the sizes from the fan outwards, within what each side has of the pressures
+//! (docs/METHOD.md).
 #![tactic(auto)]
 
 ghost use Rattle.std.specs.Prelude.{IfOk, IfSome, IfNone};
@@ -31,7 +32,7 @@ pub fn best_design(alloc: Global, net: &Network) -> Result<Option<Design>, NoMem
     }
 }
 
-/// The fan with what each side has of its pressure, chosen over the fronts of the two sides.
+/// The fans with what each side has of their pressures, chosen over the fronts of the two sides.
 fn best_choice(
     alloc: Global,
     net: &Network,

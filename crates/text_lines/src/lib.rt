@@ -1,6 +1,6 @@
 //! A text that grows by lines of words, for whoever prints.
 //!
-//! The words of a line are parted by one blank, and a line feed ends it; a number is a word in plain decimals
+//! The words of a line are parted by one space, and a line feed ends it; a number is a word in plain decimals
 //! (docs/FORMATS.md, "What is written").
 #![tactic(auto)]
 
@@ -12,7 +12,7 @@ use duct_units::{List, NoMemory};
 use std::alloc::Global;
 use std::marker::Model;
 
-/// Lines, each ended by a line feed. After want of memory a text can only be dropped.
+/// Lines, each ended by a line feed. Where memory runs out a text can only be dropped.
 #[derive(Drop)]
 pub struct Text {
     bytes: Vec<u8>,
@@ -36,7 +36,7 @@ impl Text {
         }
     }
 
-    /// Adds a line of words parted by one blank.
+    /// Adds a line of words parted by one space.
     pub fn line(&mut self, first: &[u8], words: &[&[u8]]) -> Result<(), NoMemory>
         ensures { OnOk result (self.new ≡ self.old ++ line first.now (map (λ word. word.now) words.now)) }
     {

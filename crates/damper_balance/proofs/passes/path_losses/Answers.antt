@@ -1,8 +1,7 @@
 use Rattle.std.proofs.Common.{◌≡◌, ◌<◌, ◌+◌, ap, ◌∙◌, arith}
 use Rattle.std.specs.Prelude.{slice_index}
-use Rattle.duct_definitions.specs.Tree.{Tree, section_count, neighbour}
+use Rattle.duct_definitions.specs.Tree.{Tree, section_count, neighbour, at_neighbour}
 use Rattle.duct_definitions.specs.Designs.{path_loss}
-use Rattle.damper_balance.specs.SectionNumbers.{number_at}
 use Rattle.damper_balance.proofs.NumberLists.{written-up}
 use Rattle.damper_balance.proofs.PassLemmas.{next_loss, next_loss-le}
 use Rattle.damper_balance.proofs.passes.path_losses.Goals as goal
@@ -15,7 +14,7 @@ is_next : (c : After-number_beside) → c.loss_at.result + c.number_beside.resul
 is_next c =
     next_loss c.args.net.now c.args.d.now (λ s. slice_index c.args.losses.now s) c.loop-s.s c.loop-s.losses c.loss_at.result
     c.number_beside.result c.tree-tree.ensures.network (within c) c.loop-s.invariant c.loss_at.ensures
-    (c.number_beside.ensures ∙ ap (λ (t : Tree). number_at c.loop-s.losses (neighbour t c.loop-s.s)) c.tree-tree.ensures.tree)
+    (c.number_beside.ensures ∙ ap (λ (t : Tree). at_neighbour (slice_index c.loop-s.losses) (neighbour t c.loop-s.s)) c.tree-tree.ensures.tree)
 
 pub overflow_add-losses : goal.overflow_add-losses
 overflow_add-losses c =
