@@ -12,12 +12,10 @@ use Rattle.std.specs.Prelude.{ℕ, ◌+◌, ◌-◌, ◌^◌, ◌==◌, ◌&&◌
 use Rattle.std.specs.List.{list_any}
 use Rattle.duct_ports.specs.declared.held.HeldFile.{HeldFile}
 use Rattle.duct_ports.specs.Reading.{Contents}
+use Rattle.duct_ports.specs.Faults.{one_more}
 use Rattle.duct_ports.specs.Held.{is_held, contents_of, rest_of}
 
--- one more, up to u64::MAX
-abbrev pub one_more : ℕ → ℕ
-one_more count = min (count + 1) (2 ^ 64 - 1)
-
+-- how many calls were made, and the numbers of those that fail
 pub record Numbered : Type 0 where
   pub fails : List ℕ
   pub made : ℕ
@@ -34,10 +32,7 @@ next_fails calls = list_any (λ number. number == one_more calls.made) calls.fai
 abbrev pub after_call : Numbered → Numbered
 after_call calls = record calls { made = one_more calls.made }
 
--- the count of faults after a call, by whether it succeeded
-abbrev pub faults_after : ℕ → Bool → ℕ
-faults_after faults ok = if ok then faults else one_more faults
-
+-- files that are held, the bytes left of the one that is started, the names asked for, and the numbered calls
 pub record FilesInMemory : Type 0 where
   pub files : List HeldFile
   pub left : Option (List ℕ)
@@ -53,6 +48,7 @@ held_by source = Some (contents_of source.files)
 abbrev pub left_of : FilesInMemory → Option (List ℕ)
 left_of source = Some (rest_of source.left)
 
+-- a file is started
 abbrev pub is_started : FilesInMemory → Bool
 is_started source = is_some source.left
 
@@ -64,6 +60,7 @@ can_start source name = is_held source.files name && not (next_fails source.call
 abbrev pub can_read : FilesInMemory → Bool
 can_read source = not (is_started source && next_fails source.calls)
 
+-- a read is a numbered call where a file is started
 abbrev pub calls_after_read : FilesInMemory → Numbered
 calls_after_read source = if is_started source then after_call source.calls else source.calls
 
@@ -71,6 +68,7 @@ calls_after_read source = if is_started source then after_call source.calls else
 abbrev pub count_moved : FilesInMemory → List ℕ → ℕ
 count_moved source buf = min (length buf) (length (rest_of source.left))
 
+-- the bytes that a sink took, its room, the most it takes at once, and the numbered calls
 pub record SinkInMemory : Type 0 where
   pub taken : List ℕ
   pub room : ℕ

@@ -23,6 +23,6 @@ IsBegun held name left = IfSome held (λ contents. left ≡ Some (contents name)
 abbrev pub bytes_of : Option Contents → List ℕ → Option (List ℕ)
 bytes_of held name = option_map (λ contents. contents name) held
 
--- more than so many bytes were taken from the front of those that were left
+-- a prefix of more than so many bytes was taken of those that were left
 abbrev pub TakesMoreThan : ℕ → Option (List ℕ) → Option (List ℕ) → Type 0
 TakesMoreThan limit old new = (taken : List ℕ) × (limit < length taken) × Consumes old new taken

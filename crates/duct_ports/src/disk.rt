@@ -1,11 +1,13 @@
 //! Real files. They tell nothing of their contents.
-ghost use Rattle.std.specs.Prelude.{◌≡◌, ◌≤◌, [], refl, None, is_some};
-ghost use Rattle.duct_ports.specs.Faults.{Rose};
+ghost use Rattle.std.specs.Prelude.{◌≡◌, ◌≢◌, ◌<◌, ◌≤◌, ◌++◌, [], ◌∷◌, refl, None, false, length, take, is_some, is_ok, IfOk, OnOk, OnErr, IsErr, MatchResult};
+ghost use Rattle.std.specs.Io.KnownBytes.{Consumes};
+ghost use Rattle.duct_ports.specs.Faults.{Rose, faults_after};
+ghost use Rattle.duct_ports.specs.Reading.{IsBegun};
 
 use crate::asked::Asked;
-use crate::files::{FileFault, Files};
+use crate::files::{FileFault, Files, MAX_NAMES};
 use std::fs;
-use std::io::Read;
+use std::io::{self, Read};
 
 /// Files of the runtime, by their paths.
 #[derive(Drop)]
@@ -20,6 +22,7 @@ impl<'r, 'w, R: std::rt::Files> DiskFiles<'r, 'w, R> {
     /// The files of the runtime; none is started.
     pub fn new(rt: &'r R) -> DiskFiles<'r, 'w, R>
         ensures names { ⟦<DiskFiles<'r, 'w, R> as Files<'w>>⟧.asked result ≡ [] }
+        ensures idle { ⟦<DiskFiles<'r, 'w, R> as Files<'w>>⟧.started result ≡ false }
         ensures faults { ⟦<DiskFiles<'r, 'w, R> as Files<'w>>⟧.fault_count result ≡ 0 }
     {
         DiskFiles {
@@ -30,10 +33,48 @@ impl<'r, 'w, R: std::rt::Files> DiskFiles<'r, 'w, R> {
         }
     }
 
+    /// Starts the file, where it was opened; else counts a fault.
+    fn opened(&mut self, file: io::Result<R::File>) -> Result<(), FileFault>
+        ensures ok { is_ok result ≡ is_ok file }
+        ensures started { is_some self.new.file ≡ is_ok file }
+        ensures names { self.new.asked ≡ self.old.asked }
+        ensures faults { self.new.faults ≡ faults_after self.old.faults (is_ok file) }
+        ensures count { self.old.faults ≤ self.new.faults }
+        ensures cause { OnErr result (Rose self.old.faults self.new.faults) }
+    {
+        let Ok(file) = file else {
+            return Err(self.fail());
+        };
+        self.file = Some(file);
+        Ok(())
+    }
+
+    /// What a read of the started file answered: so many bytes, 0 at its end, or a fault, which is counted.
+    fn answered(&mut self, answer: io::Result<usize>) -> Result<usize, FileFault>
+        ensures value { MatchResult answer (λ n. result ≡ Ok n) (λ _. IsErr result) }
+        ensures kept { IfOk answer (λ n. n ≢ 0 → self.new.file ≡ self.old.file) }
+        ensures ended { result ≡ Ok 0 → self.new.file ≡ None }
+        ensures stopped { OnErr result (self.new.file ≡ None) }
+        ensures names { self.new.asked ≡ self.old.asked }
+        ensures faults { self.new.faults ≡ faults_after self.old.faults (is_ok answer) }
+        ensures count { self.old.faults ≤ self.new.faults }
+        ensures cause { OnErr result (Rose self.old.faults self.new.faults) }
+    {
+        match answer {
+            Ok(0) => {
+                self.file = None;
+                Ok(0)
+            }
+            Ok(count) => Ok(count),
+            Err(_) => Err(self.fail()),
+        }
+    }
+
     /// Lets the file go, and counts a fault.
     fn fail(&mut self) -> FileFault
         ensures file { self.new.file ≡ None }
         ensures names { self.new.asked ≡ self.old.asked }
+        ensures faults { self.new.faults ≡ faults_after self.old.faults false }
         ensures count { self.old.faults ≤ self.new.faults }
         ensures cause { Rose self.old.faults self.new.faults }
     {
@@ -58,30 +99,45 @@ impl<'r, 'w, R: std::rt::Files> Files<'w> for DiskFiles<'r, 'w, R> {
 
     ghost nothing_left = { λ _ _. tt };
 
-    fn start(&mut self, name: &'w str) -> Result<(), FileFault> {
+    /// A path that can't be opened is a fault.
+    fn start(&mut self, name: &'w str) -> Result<(), FileFault>
+        requires { length self.old.asked < MAX_NAMES }
+
+        ensures faults { self.new.faults ≡ faults_after self.old.faults (is_ok result) }
+
+        // What the trait promises.
+        ensures names { self.new.asked ≡ self.old.asked ++ name.now ∷ [] }
+        ensures started { is_some self.new.file ≡ is_ok result }
+        ensures begun { OnOk result (IsBegun None name.now None) }
+        ensures count { self.old.faults ≤ self.new.faults }
+        ensures cause { OnErr result (Rose self.old.faults self.new.faults) }
+    {
         self.asked.add(name);
-        match fs::open(self.rt, name) {
-            Ok(file) => {
-                self.file = Some(file);
-                Ok(())
-            }
-            Err(_) => Err(self.fail()),
-        }
+        let file = fs::open(self.rt, name);
+        self.opened(file)
     }
 
-    fn read(&mut self, buf: &mut [u8]) -> Result<usize, FileFault> {
+    /// A read that fails is a fault.
+    fn read(&mut self, buf: &mut [u8]) -> Result<usize, FileFault>
+        requires { 0 < length buf.old }
+
+        ensures faults { self.new.faults ≡ faults_after self.old.faults (is_ok result) }
+
+        // What the trait promises.
+        ensures bound { IfOk result (λ n. n ≤ length buf.old) }
+        ensures bytes { IfOk result (λ n. Consumes None None (take n buf.new)) }
+        ensures idle { is_some self.old.file ≡ false → result ≡ Ok 0 }
+        ensures ended { result ≡ Ok 0 → is_some self.new.file ≡ false }
+        ensures stopped { OnErr result (is_some self.new.file ≡ false) }
+        ensures names { self.new.asked ≡ self.old.asked }
+        ensures count { self.old.faults ≤ self.new.faults }
+        ensures cause { OnErr result (Rose self.old.faults self.new.faults) }
+    {
         let answer = match &mut self.file {
             Some(file) => file.read(buf),
             None => return Ok(0),
         };
-        match answer {
-            Ok(0) => {
-                self.file = None;
-                Ok(0)
-            }
-            Ok(count) => Ok(count),
-            Err(_) => Err(self.fail()),
-        }
+        self.answered(answer)
     }
 
     fn faults(&self) -> u64 {

@@ -44,7 +44,7 @@ pub trait Files<'w> {
         ensures count { fault_count self.old ≤ fault_count self.new }
         ensures cause { OnErr result (Rose (fault_count self.old) (fault_count self.new)) };
 
-    /// Moves the next bytes of the started file into the front of `buf`, and answers how many.
+    /// Moves the next bytes of the started file to the beginning of `buf`, and answers how many.
     /// 0 is the end of the file.
     fn read(&mut self, buf: &mut [u8]) -> Result<usize, FileFault>
         requires { 0 < length buf.old }

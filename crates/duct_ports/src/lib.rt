@@ -11,6 +11,7 @@ mod disk;
 mod files;
 mod gate;
 mod held;
+pub mod laws;
 mod memory_files;
 mod memory_sink;
 mod read;

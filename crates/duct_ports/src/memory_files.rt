@@ -32,7 +32,8 @@ impl<'w> Model for MemoryFiles<'w> {
 }
 
 impl<'w> MemoryFiles<'w> {
-    ghost use Rattle.duct_ports.specs.Memory.{not_called, one_more};
+    ghost use Rattle.duct_ports.specs.Memory.{not_called};
+    ghost use Rattle.duct_ports.specs.Faults.{one_more};
 
     /// `fails` has the numbers of the calls that fail.
     pub fn new(files: List<HeldFile>, fails: List<u32>) -> MemoryFiles<'w>
@@ -69,7 +70,8 @@ impl<'w> Files<'w> for MemoryFiles<'w> {
     ghost use Rattle.duct_ports.specs.Held.{rest_of-none};
     ghost use Rattle.duct_ports.specs.Memory.{held_by, left_of, is_started};
     ghost use Rattle.duct_ports.specs.Memory.{can_start, can_read, count_moved};
-    ghost use Rattle.duct_ports.specs.Memory.{after_call, calls_after_read, faults_after};
+    ghost use Rattle.duct_ports.specs.Memory.{after_call, calls_after_read};
+    ghost use Rattle.duct_ports.specs.Faults.{faults_after};
 
     ghost asked = { λ source. source.asked };
 

@@ -65,7 +65,8 @@ impl MemorySink {
 }
 
 impl Sink for MemorySink {
-    ghost use Rattle.duct_ports.specs.Memory.{can_write, after_call, faults_after, count_taken};
+    ghost use Rattle.duct_ports.specs.Memory.{can_write, after_call, count_taken};
+    ghost use Rattle.duct_ports.specs.Faults.{faults_after};
 
     ghost taken = { λ sink. Some sink.taken };
 

@@ -21,7 +21,7 @@ pub trait Sink {
     // the count of faults
     ghost fault_count: { Self → ℕ };
 
-    /// Takes bytes from the front of `piece`, and answers how many.
+    /// Takes a prefix of `piece`, and answers how many bytes it took.
     fn write(&mut self, piece: &[u8]) -> Result<usize, SinkFault>
         requires { 0 < length piece.now }
 

@@ -1,5 +1,5 @@
 //! Files and a sink that never fail, and whose count of faults is the constant 0.
-ghost use Rattle.std.specs.Prelude.{◌≡◌, ◌<◌, [], refl, Some, None, length, is_some};
+ghost use Rattle.std.specs.Prelude.{◌≡◌, ◌<◌, [], refl, Some, None, false, length, is_some};
 
 use crate::asked::Asked;
 use crate::files::{FileFault, Files};
@@ -20,6 +20,7 @@ impl<'w> SureFiles<'w> {
     /// These files; none is started.
     pub fn new(files: List<HeldFile>) -> SureFiles<'w>
         ensures names { ⟦<SureFiles<'w> as Files<'w>>⟧.asked result ≡ [] }
+        ensures idle { ⟦<SureFiles<'w> as Files<'w>>⟧.started result ≡ false }
         ensures held { ⟦<SureFiles<'w> as Files<'w>>⟧.held result ≡ Some (contents_of files) }
     {
         SureFiles {
@@ -66,8 +67,11 @@ impl<'w> Files<'w> for SureFiles<'w> {
 pub struct SureSink;
 
 impl SureSink {
-    /// A sink that keeps nothing.
-    pub fn new() -> SureSink {
+    /// A sink that has taken nothing.
+    pub fn new() -> SureSink
+        ensures bytes { ⟦<SureSink as Sink>⟧.taken result ≡ None }
+        ensures faults { ⟦<SureSink as Sink>⟧.fault_count result ≡ 0 }
+    {
         SureSink
     }
 }
