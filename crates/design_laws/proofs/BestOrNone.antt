@@ -1,32 +1,22 @@
 -- A network has a best design, or no design of it meets the rules: one goes over the list of all designs that fit,
 -- and keeps the first of those that meet the rules.
-use Rattle.std.proofs.Common.{◌≡◌, ◌⊎◌, inl, inr, List, [], ◌∷◌, length, true, ◌∙◌, sym, subst}
-use Rattle.std.proofs.lemmas.Bool.{and_from, cases_Bool, both_ways, lt-ltb, eq-eqb}
-use Rattle.std.specs.Prelude.{◌&&◌, nat_lt, slice_index}
+use Rattle.std.proofs.Common.{◌≡◌, ◌⊎◌, inl, inr, List, [], ◌∷◌, ◌∙◌, sym, subst}
+use Rattle.std.proofs.lemmas.Bool.{cases_Bool, both_ways}
+use Rattle.std.specs.Prelude.{◌&&◌}
 use Rattle.duct_definitions.specs.declared.design.Design.{Design}
-use Rattle.duct_definitions.specs.Tree.{section_count}
-use Rattle.duct_definitions.specs.Network.{Network, size_count}
+use Rattle.duct_definitions.specs.Network.{Network}
 use Rattle.duct_definitions.specs.Designs.{Meets}
 use Rattle.duct_definitions.specs.Order.{Before, IsBest, NoneMeets}
-use Rattle.duct_definitions.proofs.Below.{all_below-from}
 use Rattle.design_laws.proofs.Among.{Among}
 use Rattle.design_laws.proofs.Listing.{designs, Among-designs}
-use Rattle.design_laws.proofs.Best.{fits, suffices, Meets-tested, suffices-from}
+use Rattle.design_laws.proofs.Best.{fits, suffices, Meets-tested, passes-from}
 use Rattle.design_laws.proofs.TotalOrder.{before_total, before_then}
-
-fits-from : (net : Network) (d : Design) → Meets net d → fits net d ≡ true
-fits-from net d meets =
-    and_from _ _
-    (and_from _ _ (lt-ltb d.fan (length net.fans) meets.fits.fan)
-    (eq-eqb (length d.sizes) (section_count net.tree) meets.fits.sizes))
-    (all_below-from (section_count net.tree) (λ s. nat_lt (slice_index d.sizes s) (size_count net s))
-    λ s within. lt-ltb (slice_index d.sizes s) (size_count net s) (meets.fits.each s within))
 
 pub Meets-decided : (net : Network) (d : Design) → Meets net d ⊎ (Meets net d → ⊥)
 Meets-decided net d =
     elim (cases_Bool (fits net d && suffices net d)) [
       | inl passes ↦ inl (Meets-tested net d passes)
-      | inr fails ↦ inr (λ meets. both_ways _ fails (and_from _ _ (fits-from net d meets) (suffices-from net d meets)))
+      | inr fails ↦ inr (λ meets. both_ways _ fails (passes-from net d meets))
     ]
 
 -- the design meets the rules, and comes first among those of the list that do

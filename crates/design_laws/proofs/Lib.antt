@@ -1,6 +1,7 @@
 pub mod Among
 pub mod Ways
 pub mod Beyond
+pub mod ReturnSide
 pub mod Throttled
 pub mod TotalOrder
 pub mod Listing

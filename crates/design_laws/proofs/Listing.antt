@@ -1,7 +1,7 @@
 -- Every design that fits a network, in a list.
-use Rattle.std.proofs.Common.{◌≡◌, ℕ, suc, ◌<◌, inl, List, [], ◌∷◌, length, map, refl, arith}
+use Rattle.std.proofs.Common.{◌≡◌, ℕ, suc, ◌<◌, inl, inr, List, [], ◌∷◌, length, map, Option, Some, None, refl, arith}
 use Rattle.std.proofs.lemmas.List.FromFn.{length-map-range_with_len, get_or-map-range_with_len}
-use Rattle.std.specs.Prelude.{slice_index}
+use Rattle.std.specs.Prelude.{slice_index, IfSome}
 use Rattle.std.specs.List.{range_with_len, flat_map}
 use Rattle.duct_definitions.specs.declared.design.Design.{Design}
 use Rattle.duct_definitions.specs.Tree.{section_count, sections}
@@ -18,9 +18,24 @@ choices (bound ∷ bounds) = flat_map (λ k. map (λ ks. k ∷ ks) (choices boun
 abbrev pub size_counts : Network → List ℕ
 size_counts net = map (size_count net) (sections net.tree)
 
+-- no return fan, or one of so many
+abbrev pub backs : ℕ → List (Option ℕ)
+backs count = None ∷ map Some (range_with_len 0 count)
+
+-- with these fans, all sizes
+abbrev pub designs_with : Network → ℕ → Option ℕ → List Design
+designs_with net fan back =
+    map (λ sizes. record { fan = fan; back = back; sizes = sizes }) (choices (size_counts net))
+
 abbrev pub designs : Network → List Design
 designs net =
-    flat_map (λ fan. map (λ sizes. record { fan = fan; sizes = sizes }) (choices (size_counts net))) (range_with_len 0 (length net.fans))
+    flat_map (λ fan. flat_map (designs_with net fan) (backs (length net.return_fans)))
+    (range_with_len 0 (length net.fans))
+
+Among-backs : (count : ℕ) (back : Option ℕ) → IfSome back (λ i. i < count) → Among back (backs count)
+Among-backs count None within = inl refl
+Among-backs count (Some i) within =
+    inr (Among-map Some i (range_with_len 0 count) (Among-range 0 count i (omega arith) (omega (arith, within))))
 
 Among-choices : (bounds ks : List ℕ) → length ks ≡ length bounds
     → ((i : ℕ) → i < length bounds → slice_index ks i < slice_index bounds i) → Among ks (choices bounds)
@@ -43,8 +58,10 @@ Among-designs net d fits =
     get_or-map-range_with_len (size_count net) 0 (section_count net.tree) s s 0 (omega arith) (omega arith) in
     let below : slice_index d.sizes s < size_count net s = fits.each s (omega arith) in
     omega arith in
-    Among-flat_map (λ fan. map (λ sizes. record { fan = fan; sizes = sizes }) (choices (size_counts net))) d d.fan
+    Among-flat_map (λ fan. flat_map (designs_with net fan) (backs (length net.return_fans))) d d.fan
     (range_with_len 0 (length net.fans))
     (Among-range 0 (length net.fans) d.fan (omega arith) (omega (arith, fits.fan)))
-    (Among-map (λ sizes. record { fan = d.fan; sizes = sizes }) d.sizes (choices (size_counts net))
-    (Among-choices (size_counts net) d.sizes (omega (arith, fits.sizes)) each))
+    (Among-flat_map (designs_with net d.fan) d d.back (backs (length net.return_fans))
+    (Among-backs (length net.return_fans) d.back fits.back)
+    (Among-map (λ sizes. record { fan = d.fan; back = d.back; sizes = sizes }) d.sizes (choices (size_counts net))
+    (Among-choices (size_counts net) d.sizes (omega (arith, fits.sizes)) each)))

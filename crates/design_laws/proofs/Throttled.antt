@@ -1,21 +1,22 @@
 -- On each leaf's way losses and dampers add to the head of its side.
 -- The slack of a section is at least its neighbour's, since every leaf beyond the section is beyond the neighbour too.
 -- So dampers are differences of slacks, which add up to the slack of the leaf: what its path loss leaves of the head.
-use Rattle.std.proofs.Common.{◌≡◌, ℕ, zero, suc, ◌+◌, ◌-◌, ◌<◌, ◌≤◌, inl, List, [], ◌∷◌, map, max, true, Some, None, refl, ap, ◌∙◌, sym, subst, arith}
+use Rattle.std.proofs.Common.{◌≡◌, ℕ, zero, suc, ◌+◌, ◌-◌, ◌<◌, ◌≤◌, inl, List, [], ◌∷◌, true, Option, Some, None, refl, ap, ◌∙◌, sym, subst, arith}
 use Rattle.std.proofs.lemmas.List.Sums.{sum_by-cons}
-use Rattle.std.specs.Prelude.{sum_by, fold}
+use Rattle.std.specs.Prelude.{sum_by}
 use Rattle.duct_units.specs.declared.side.Side.{Side}
 use Rattle.duct_units.specs.declared.side.Side.TheVariants.{Supply, Return}
 use Rattle.duct_definitions.specs.declared.design.Design.{Design}
 use Rattle.duct_definitions.specs.Tree.{IsTree, section_count, neighbour, side, is_leaf, leaves, way}
-use Rattle.duct_definitions.specs.Network.{Network, IsNetwork, fan_at}
-use Rattle.duct_definitions.specs.Designs.{Meets, pair_of, loss_of, path_loss, worst}
-use Rattle.duct_definitions.specs.Dampers.{head, leaves_beyond, slack, slack_beside, damper}
+use Rattle.duct_definitions.specs.Network.{Network, IsNetwork}
+use Rattle.duct_definitions.specs.Designs.{Meets, Covers, pair_of, loss_of, path_loss, worst}
+use Rattle.duct_definitions.specs.Dampers.{head, head_with, leaves_beyond, slack, slack_beside, damper}
 use Rattle.duct_definitions.proofs.TreeLaws.{earlier}
-use Rattle.duct_definitions.specs.Balance.{IsLeafOf, throttled_loss, PathsTakeHeads, PathsTakePressure, SupplyTakesPressure}
+use Rattle.duct_definitions.specs.Balance.{IsLeafOf, PathsTakeHeads, PathsTake, IsBalancedWith, IsBalanced}
 use Rattle.design_laws.proofs.Among.{Among, le-max, least_of-le, least_of-reached}
 use Rattle.duct_definitions.proofs.WayLaws.{way-at_fan, way-beside}
 use Rattle.design_laws.proofs.Ways.{neighbour_side}
+use Rattle.design_laws.proofs.ReturnSide.{no_return_loss}
 use Rattle.design_laws.proofs.Beyond.{IsBeyond, goes_on, alone_on_way, is_within, Among-leaves, Among-leaves_beyond, IsBeyond-from, IsBeyond-way}
 
 slack-le : (net : Network) (d : Design) (s leaf : ℕ) → IsBeyond net.tree s leaf
@@ -90,21 +91,20 @@ sum_by-plus f g (x ∷ xs) =
     let rest = sum_by-plus f g xs in
     omega arith
 
--- the two heads are the fan's pressure
-heads : (net : Network) (d : Design) → Meets net d → head net d Supply + head net d Return ≡ (fan_at net d.fan).pressure
-heads net d meets = let covered = meets.pressure in omega arith
-
 -- each side's worst loss is within its head
-worst-le : (net : Network) (d : Design) (x : Side) → Meets net d → worst net d x ≤ head net d x
-worst-le net d Supply meets = let covered = meets.pressure in omega arith
-worst-le net d Return meets = omega arith
+worst-le_with : (net : Network) (d : Design) (back : Option ℕ) (x : Side) → Covers net d back
+    → worst net d x ≤ head_with net d back x
+worst-le_with net d None Supply covered = omega arith
+worst-le_with net d None Return covered = omega arith
+worst-le_with net d (Some i) Supply covered = covered.0
+worst-le_with net d (Some i) Return covered = covered.1
 
 path_loss-le : (net : Network) (d : Design) (x : Side) (leaf : ℕ) → Meets net d → IsLeafOf net.tree x leaf
     → path_loss net d leaf ≤ head net d x
 path_loss-le net d x leaf meets of_side =
     let most : path_loss net d leaf ≤ worst net d x = le-max (path_loss net d) 0 leaf (leaves net.tree x)
     (Among-leaves net.tree x leaf of_side.leaf of_side.at_side) in
-    let covered = worst-le net d x meets in
+    let covered = worst-le_with net d d.back x meets.pressure in
     omega arith
 
 -- a part and what it leaves of the whole
@@ -122,16 +122,22 @@ paths_take_heads net d valid meets x leaf of_side =
     ∙ whole_again (head net d x) (path_loss net d leaf) (sum_by (damper net d) (way net.tree leaf))
     (path_loss-le net d x leaf meets of_side) (dampers ∙ slack_is)
 
-pub paths_take_pressure : (net : Network) (d : Design) → IsNetwork net → Meets net d → PathsTakePressure net d
-paths_take_pressure net d valid meets supply back of_supply of_return =
-    let one = paths_take_heads net d valid meets Supply supply of_supply in
-    let other = paths_take_heads net d valid meets Return back of_return in
-    ap (λ n. n + throttled_loss net d back) one ∙ ap (λ n. head net d Supply + n) other ∙ heads net d meets
+-- paths that take the heads of their sides take their fans' pressures
+balanced_with : (net : Network) (d : Design) (back : Option ℕ) → Covers net d back
+    → ((x : Side) → PathsTake net d x (head_with net d back x)) → IsBalancedWith net d back
+balanced_with net d None covered take = record {
+  both = λ supply back of_supply of_return.
+      let one = take Supply supply of_supply in
+      let other = take Return back of_return in
+      omega arith;
+  alone = λ none leaf of_supply.
+      let none_lost = no_return_loss net d none in
+      let whole = take Supply leaf of_supply in
+      omega arith;
+}
+balanced_with net d (Some i) covered take = record { supply = take Supply; back = take Return }
 
-pub supply_takes_pressure : (net : Network) (d : Design) → IsNetwork net → Meets net d → SupplyTakesPressure net d
-supply_takes_pressure net d valid meets none leaf of_supply =
-    let none_lost : worst net d Return ≡ 0 = ap (λ all. fold max 0 (map (path_loss net d) all)) none in
-    let all = heads net d meets in
-    paths_take_heads net d valid meets Supply leaf of_supply ∙ omega arith
+pub paths_balanced : (net : Network) (d : Design) → IsNetwork net → Meets net d → IsBalanced net d
+paths_balanced net d valid meets = balanced_with net d d.back meets.pressure (paths_take_heads net d valid meets)
 
-pub ruleset balance = (paths_take_heads, paths_take_pressure, supply_takes_pressure)
+pub ruleset balance = (paths_take_heads, paths_balanced)

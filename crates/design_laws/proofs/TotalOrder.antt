@@ -5,8 +5,15 @@ use Rattle.duct_units.specs.declared.side.Side.TheVariants.{Supply}
 use Rattle.duct_definitions.specs.declared.design.Design.{Design}
 use Rattle.duct_definitions.specs.Network.{Network}
 use Rattle.duct_definitions.specs.Designs.{Fits, cost, worst}
-use Rattle.duct_definitions.proofs.OrderLaws.{before_once}
-use Rattle.duct_definitions.specs.Order.{Earlier, LessOr, Before}
+use Rattle.duct_definitions.proofs.OrderLaws.{before_once, turn_of-inj}
+use Rattle.duct_definitions.specs.Order.{Earlier, LessOr, turn_of, Before}
+
+-- the same fans and the same sizes are the same design
+pub same_design : (d e : Design) → d.fan ≡ e.fan → turn_of d.back ≡ turn_of e.back → e.sizes ≡ d.sizes → e ≡ d
+same_design d e fan turn sizes =
+    ap (λ i. record { fan = i; back = e.back; sizes = e.sizes }) (sym fan)
+    ∙ ap (λ o. record { fan = d.fan; back = o; sizes = e.sizes }) (sym (turn_of-inj d.back e.back turn))
+    ∙ ap (λ ks. record { fan = d.fan; back = d.back; sizes = ks }) sizes
 
 -- equal numbers leave the order to what follows
 LessOr-total : (m n : ℕ) (Same Then Back : Type 0) → (m ≡ n → Same ⊎ (Then ⊎ Back))
@@ -40,10 +47,10 @@ pub before_total : (net : Network) (d e : Design) → Fits net d → Fits net e
 before_total net d e fit other =
     LessOr-total (cost net d) (cost net e) _ _ _ λ _.
     LessOr-total d.fan e.fan _ _ _ λ fan.
+    LessOr-total (turn_of d.back) (turn_of e.back) _ _ _ λ turn.
     LessOr-total (worst net d Supply) (worst net e Supply) _ _ _ λ _.
     elim (Earlier-total d.sizes e.sizes (fit.sizes ∙ sym other.sizes)) [
-      | inl sizes ↦ inl
-          (ap (λ i. record { fan = i; sizes = e.sizes }) (sym fan) ∙ ap (λ ks. record { fan = d.fan; sizes = ks }) sizes)
+      | inl sizes ↦ inl (same_design d e fan turn sizes)
       | inr apart ↦ inr apart
     ]
 
@@ -63,6 +70,7 @@ Earlier-then (x ∷ xs) (y ∷ ys) (z ∷ zs) first second = LessOr-then x y z _
 -- what comes before an earlier one comes before the later one
 pub before_then : (net : Network) (d e f : Design) → Before net d e → Before net e f → Before net d f
 before_then net d e f =
-    LessOr-then _ _ _ _ _ _ (LessOr-then _ _ _ _ _ _ (LessOr-then _ _ _ _ _ _ (Earlier-then d.sizes e.sizes f.sizes)))
+    LessOr-then _ _ _ _ _ _ (LessOr-then _ _ _ _ _ _ (LessOr-then _ _ _ _ _ _ (LessOr-then _ _ _ _ _ _
+    (Earlier-then d.sizes e.sizes f.sizes))))
 
 pub ruleset order = (before_total, before_then, before_once)

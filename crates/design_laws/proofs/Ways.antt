@@ -1,12 +1,12 @@
 -- The way of a section to the fan: it goes on by the neighbour, stays on one side, and a leaf is only at its start.
-use Rattle.std.proofs.Common.{◌≡◌, ℕ, zero, suc, ◌+◌, ◌<◌, inl, inr, List, [], ◌∷◌, true, false, Some, None, refl, ap, ◌∙◌, sym, subst, arith}
+use Rattle.std.proofs.Common.{◌≡◌, ℕ, zero, suc, ◌+◌, ◌<◌, inl, inr, List, [], ◌∷◌, true, false, Some, None, refl, sym, subst, arith}
 use Rattle.std.proofs.lemmas.Bool.{both_ways}
 use Rattle.duct_units.specs.declared.fault.Reason.TheVariants.{NotBefore, OtherSide}
 use Rattle.duct_units.specs.declared.side.Side.{Side}
 use Rattle.duct_units.specs.declared.side.Side.TheVariants.{Supply, Return}
 use Rattle.duct_units.specs.Rules.{Rule, first_broken, at_section}
 use Rattle.duct_units.proofs.RuleLaws.{rule_holds}
-use Rattle.duct_definitions.specs.Tree.{Tree, IsTree, section_count, neighbour, side, from_neighbour, way_within, way, is_before, is_on_side}
+use Rattle.duct_definitions.specs.Tree.{Tree, IsTree, section_count, neighbour, side, way, is_before, is_on_side}
 use Rattle.duct_units.specs.Side.{same_side}
 use Rattle.duct_definitions.proofs.TreeLaws.{rules_hold, earlier}
 use Rattle.duct_definitions.proofs.WayLaws.{way-at_fan, way-beside}

@@ -1,16 +1,24 @@
 //! Laws of designs: what the definitions say of every network. Each is the contract of a call that has nothing to do.
 #![tactic(auto)]
 
-ghost use Rattle.std.specs.Prelude.{◌≡◌, ◌⊎◌};
+ghost use Rattle.std.specs.Prelude.{◌≡◌, ◌⊎◌, [], None};
+ghost use Rattle.duct_units.specs.declared.side.Side.TheVariants.{Return};
 ghost use Rattle.duct_definitions.specs.declared.design.Design.{Design};
 ghost use Rattle.duct_definitions.specs.Designs.{Fits, Meets};
 ghost use Rattle.duct_definitions.specs.Network.{Network, IsNetwork};
+ghost use Rattle.duct_definitions.specs.Tree.{leaves};
 ghost use Rattle.duct_definitions.specs.Order.{Before, IsBest, NoneMeets};
 ghost use Rattle.duct_definitions.specs.Balance.{PathsTakeHeads, IsBalanced};
 
 /// A network has a best design, or no design of it meets the rules.
 pub fn best_or_none()
     ensures { (net : Network) → ((d : Design) × IsBest net d) ⊎ NoneMeets net }
+{}
+
+/// Where there is no return side, the best design has no return fan.
+#[tactic(auto, using(crate::proofs::ReturnSide::no_return_fan))]
+pub fn return_fan_needs_a_return_side()
+    ensures { (net : Network) (d : Design) → leaves net.tree Return ≡ [] → IsBest net d → d.back ≡ None }
 {}
 
 /// Of two designs that fit a network exactly one comes before the other, unless they are the same design.

@@ -1,11 +1,11 @@
 -- What the rules of a tree say.
-use Rattle.std.proofs.Common.{◌≡◌, ℕ, ◌<◌, ◌≤◌, ◌+◌, List, [], ◌∷◌, ◌++◌, Option, Some, None, IfSome, Bool, true, refl, ap, ◌∙◌, sym, subst, arith}
+use Rattle.std.proofs.Common.{◌≡◌, ℕ, ◌<◌, ◌≤◌, ◌+◌, List, [], ◌∷◌, ◌++◌, Some, None, IfSome, true, refl, ◌∙◌, sym, arith}
 use Rattle.std.proofs.lemmas.Bool.{ltb-true, leb-true}
 use Rattle.std.specs.Prelude.{nat_le}
 use Rattle.std.specs.List.{flat_map, list_any}
 use Rattle.duct_units.specs.declared.side.Side.TheVariants.{Supply}
 use Rattle.duct_units.specs.declared.fault.Reason.TheVariants.{Empty, TooMany, NotBefore, OtherSide, NoSupply}
-use Rattle.duct_units.specs.Rules.{Rule, first_broken, or_else, at_file, at_section}
+use Rattle.duct_units.specs.Rules.{Rule, first_broken, at_file, at_section}
 use Rattle.duct_definitions.specs.declared.limits.TheConstants.{MAX_SECTIONS}
 use Rattle.duct_definitions.specs.Tree.{Tree, IsTree, section_count, sections, neighbour, side, is_before, is_on_side, section_rules}
 use Rattle.duct_units.specs.Side.{same_side}
@@ -33,7 +33,7 @@ pub neighbour_earlier : (t : Tree) (s : ℕ) → IsTree t → s < section_count 
 neighbour_earlier t s tree within =
     elim (neighbour t s) as (λ o. neighbour t s ≡ o → IfSome o (λ n. n < s)) [ None ↦ λ e. tt | Some n ↦ λ e. earlier t s n tree within e ] refl
 
--- a tree has 500 sections at the most
+-- a tree has at most 500 sections
 pub few_sections : (t : Tree) → IsTree t → section_count t ≤ MAX_SECTIONS
 few_sections t tree =
     let each : List Rule = flat_map (section_rules t) (sections t) in

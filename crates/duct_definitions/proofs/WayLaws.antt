@@ -1,5 +1,5 @@
 -- The way of a section to the fan goes on by the neighbour, and is no longer than the tree has sections.
-use Rattle.std.proofs.Common.{◌≡◌, ℕ, zero, suc, ◌+◌, ◌<◌, ◌≤◌, List, [], ◌∷◌, length, Some, None, refl, ap, ◌∙◌, arith}
+use Rattle.std.proofs.Common.{◌≡◌, ℕ, zero, suc, ◌<◌, ◌≤◌, [], ◌∷◌, length, Some, None, refl, ap, ◌∙◌, arith}
 use Rattle.duct_definitions.specs.Tree.{Tree, IsTree, section_count, neighbour, from_neighbour, way_within, way}
 use Rattle.duct_definitions.proofs.TreeLaws.{earlier}
 
@@ -42,6 +42,6 @@ way_within-short t (suc n) s =
       | Some m ↦ let rest = way_within-short t n m in omega arith
     ]
 
--- a way has as many sections as the tree at the most
+-- a way has at most as many sections as the tree
 pub way-short : (t : Tree) (s : ℕ) → s < section_count t → length (way t s) ≤ section_count t
 way-short t s within = let most = way_within-short t (suc s) s in omega arith

@@ -1,5 +1,5 @@
 -- Designs of a network: which fit, what they lose and cost, and which meet the rules.
-use Rattle.std.specs.Prelude.{◌≡◌, ℕ, ◌+◌, ◌<◌, ◌≤◌, max, List, length, map, fold, sum_by, Option, Some, None, slice_index, IsSome, IfSome}
+use Rattle.std.specs.Prelude.{◌≡◌, ℕ, ◌+◌, ◌<◌, ◌≤◌, max, length, map, fold, sum_by, Option, Some, None, slice_index, IsSome, IfSome}
 use Rattle.duct_units.specs.declared.side.Side.{Side}
 use Rattle.duct_units.specs.declared.side.Side.TheVariants.{Supply, Return}
 use Rattle.duct_definitions.specs.declared.design.Pair.{Pair}

@@ -1,6 +1,6 @@
 -- A network: a tree of sections, the sizes of each, what each pair of sizes loses and costs, and the fans on offer.
 -- A fan of the first list serves both sides, or the supply side alone beside a return fan.
-use Rattle.std.specs.Prelude.{◌≡◌, ◌≢◌, ℕ, ◌+◌, ◌*◌, ◌<◌, ◌≤◌, max, List, [], ◌∷◌, length, map, fold, Option, Some, None, IsTrue, slice_get, unwrap_or, All}
+use Rattle.std.specs.Prelude.{◌≡◌, ◌≢◌, ℕ, ◌+◌, ◌*◌, ◌<◌, ◌≤◌, max, List, [], length, map, fold, Option, Some, None, IsTrue, slice_get, unwrap_or, All}
 use Rattle.duct_units.specs.Name.{is_name}
 use Rattle.duct_definitions.specs.declared.design.Pair.{Pair}
 use Rattle.duct_definitions.specs.declared.design.NetFan.{NetFan}

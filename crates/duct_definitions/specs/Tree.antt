@@ -20,15 +20,19 @@ pub record Tree : Type 0 where
   pub neighbours : List (Option ℕ)
   pub sides : List Side
 
+-- how many sections the tree has
 abbrev pub section_count : Tree → ℕ
 section_count t = length t.neighbours
 
+-- the numbers of all sections, rising
 abbrev pub sections : Tree → List ℕ
 sections t = range_with_len 0 (section_count t)
 
+-- the next section towards the fan, or none
 abbrev pub neighbour : Tree → ℕ → Option ℕ
 neighbour t s = unwrap_or (slice_get t.neighbours s) None
 
+-- the side of the fan on which the section stands
 abbrev pub side : Tree → ℕ → Side
 side t s = unwrap_or (slice_get t.sides s) Supply
 
@@ -42,6 +46,7 @@ abbrev pub is_number : ℕ → Option ℕ → Bool
 is_number s None = false
 is_number s (Some n) = n == s
 
+-- the sections whose neighbour is s, rising
 abbrev pub children : Tree → ℕ → List ℕ
 children t s = filter (λ c. is_number s (neighbour t c)) (sections t)
 
@@ -49,6 +54,7 @@ children t s = filter (λ c. is_number s (neighbour t c)) (sections t)
 abbrev pub is_leaf : Tree → ℕ → Bool
 is_leaf t s = nat_lt s (section_count t) && length (children t s) == 0
 
+-- the sections of the side without children, rising
 abbrev pub leaves : Tree → Side → List ℕ
 leaves t x = filter (λ s. same_side (side t s) x && is_leaf t s) (sections t)
 
@@ -60,14 +66,16 @@ all_leaves t = filter (is_leaf t) (sections t)
 abbrev pub is_root : Tree → ℕ → Bool
 is_root t s = nat_lt s (section_count t) && is_none (neighbour t s)
 
+-- the sections of the side at the fan, rising
 abbrev pub roots : Tree → Side → List ℕ
 roots t x = filter (λ s. same_side (side t s) x && is_root t s) (sections t)
 
+-- the way from the neighbour, empty at the fan
 abbrev pub from_neighbour : (ℕ → List ℕ) → Option ℕ → List ℕ
 from_neighbour way_from None = []
 from_neighbour way_from (Some n) = way_from n
 
--- the first sections of the way, as many as the number says at the most
+-- the first sections of the way, at most so many
 abbrev pub way_within : ℕ → Tree → ℕ → List ℕ
 way_within zero t s = []
 way_within (suc n) t s = s ∷ from_neighbour (way_within n t) (neighbour t s)
@@ -76,13 +84,16 @@ way_within (suc n) t s = s ∷ from_neighbour (way_within n t) (neighbour t s)
 abbrev pub way : Tree → ℕ → List ℕ
 way t s = way_within (suc s) t s
 
+-- the way of section x passes section s
 abbrev pub passes : Tree → ℕ → ℕ → Bool
 passes t s x = list_any (λ y. y == s) (way t x)
 
+-- the neighbour, where there is one, has a smaller number than s
 abbrev pub is_before : ℕ → Option ℕ → Bool
 is_before s None = true
 is_before s (Some n) = nat_lt n s
 
+-- the neighbour, where there is one, is of the side
 abbrev pub is_on_side : Tree → Side → Option ℕ → Bool
 is_on_side t x None = true
 is_on_side t x (Some n) = same_side (side t n) x

@@ -7,13 +7,14 @@ use Rattle.pareto_front.specs.declared.point.Point.{Point}
 use Rattle.pareto_front.specs.Front.{IsFront}
 use Rattle.fan_choice.specs.declared.choice.Choice.{Choice}
 use Rattle.fan_choice.specs.Choice.{IsChoiceOf, NoFanCovers, NoneIsPriced}
-use Rattle.fan_choice.specs.Sharing.{first_cheapest, best_of}
-use Rattle.fan_choice.proofs.Chosen.{is_choice, none_priced}
+use Rattle.fan_choice.specs.FirstCheapest.{first_cheapest}
+use Rattle.fan_choice.proofs.Chosen.{bests, is_choice, none_priced}
 use Rattle.fan_choice.proofs.Covering.{none_covers, some_covers}
+use Rattle.fan_choice.proofs.Shares.{price}
 
 module _ (net : Network) (supply back : List Point) (supply_front : IsFront supply) (back_front : IsFront back) where
   abbrev chosen : Option Choice
-  chosen = first_cheapest (best_of net supply back) (length net.fans)
+  chosen = first_cheapest price (bests net supply back) (length net.fans)
 
   pub answer-some : (answer : Option Choice) → chosen ≡ answer → IfSome answer (λ choice. IsChoiceOf net supply back choice)
   answer-some None is = tt

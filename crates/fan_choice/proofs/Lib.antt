@@ -2,9 +2,11 @@ pub mod Rising
 pub mod FirstCheapest
 pub mod Rest
 pub mod Shares
-pub mod Bought
+pub mod LastWithin
 pub mod Paid
 pub mod OneFan
+pub mod SharedFan
+pub mod BesideFan
 pub mod Chosen
 pub mod Covering
 pub mod Answered

@@ -1,122 +1,133 @@
--- The first cheapest share of a fan is the best of all supply budgets within its pressure.
-use Rattle.std.proofs.Common.{◌≡◌, ◌≢◌, ℕ, ◌+◌, ◌-◌, ◌<◌, ◌≤◌, List, length, Option, Some, None, refl, ap, sym, ◌∙◌, subst, arith, inl, inr}
-use Rattle.std.specs.Prelude.{slice_get, IsSomeAnd}
-use Rattle.std.proofs.lemmas.Bool.{cases_lt}
-use Rattle.std.proofs.lemmas.Option.{none-some, same_Some, slice_get_within, get_or_from_slice_get}
-use Rattle.duct_definitions.specs.Network.{Network, fan_at}
+-- The best with one fan: of all ways to let it serve both sides, or the supply side beside a return fan.
+use Rattle.std.proofs.Common.{◌≡◌, ◌≢◌, ℕ, ◌<◌, ◌≤◌, List, Option, Some, None, refl, subst, arith}
+use Rattle.std.specs.Prelude.{⊤}
+use Rattle.duct_definitions.specs.Network.{Network}
+use Rattle.duct_definitions.specs.Order.{turn_of}
 use Rattle.pareto_front.specs.declared.point.Point.{Point}
-use Rattle.pareto_front.specs.Front.{IsFront, cheapest}
-use Rattle.pareto_front.proofs.Points.{cheapest-need, cheapest-rise}
-use Rattle.least_laws.specs.Choosing.{cost_at}
+use Rattle.pareto_front.specs.Front.{cheapest}
+use Rattle.least_laws.specs.Choosing.{return_budget, cost_at, IsOffered}
 use Rattle.fan_choice.specs.declared.choice.Choice.{Choice}
-use Rattle.fan_choice.specs.Sharing.{shares, best_with, best_of}
-use Rattle.fan_choice.proofs.Bought.{IsBought, bought}
-use Rattle.fan_choice.proofs.FirstCheapest.{IsFirstCheapest, first_cheapest-some, first_cheapest-none}
-use Rattle.fan_choice.proofs.Paid.{IsPaid, paid, pays}
-use Rattle.fan_choice.proofs.Rising.{later_needs_more}
-use Rattle.fan_choice.proofs.Shares.{shares-some, shares-there}
+use Rattle.fan_choice.specs.FirstCheapest.{cheaper}
+use Rattle.fan_choice.proofs.FirstCheapest.{cheaper-cases, both-none}
+use Rattle.fan_choice.proofs.Shares.{price}
 
--- the best choice with one fan
-pub record IsBestWith (net : Network) (supply back : List Point) (i : ℕ) (choice : Choice) : Type 0 where
+-- the best choice with fan i, of those whose return fan, or none, is among these
+pub record IsBestWith (Own : Option ℕ → Type 0) (net : Network) (supply back : List Point) (i : ℕ) (choice : Choice)
+    : Type 0 where
   pub fan : choice.fan ≡ i
-  pub return_budget : choice.return_budget ≡ (fan_at net i).pressure - choice.supply_budget
-  pub within : choice.supply_budget ≤ (fan_at net i).pressure
-  pub reached : cost_at net (cheapest supply) (cheapest back) i choice.supply_budget ≡ Some choice.cost
-  pub least : (b c : ℕ) → b ≤ (fan_at net i).pressure → cost_at net (cheapest supply) (cheapest back) i b ≡ Some c
-      → choice.cost ≤ c
+  pub own : Own choice.back
+  pub return_budget : choice.return_budget ≡ return_budget net i choice.back choice.supply_budget
+  pub offered : IsOffered net i choice.back choice.supply_budget
+  pub reached : cost_at net (cheapest supply) (cheapest back) i choice.back choice.supply_budget ≡ Some choice.cost
+  pub least : (o : Option ℕ) (b c : ℕ) → Own o → IsOffered net i o b
+      → cost_at net (cheapest supply) (cheapest back) i o b ≡ Some c → choice.cost ≤ c
+  pub first_back : (o : Option ℕ) (b : ℕ) → Own o → turn_of o < turn_of choice.back → IsOffered net i o b
+      → cost_at net (cheapest supply) (cheapest back) i o b ≢ Some choice.cost
   pub least_budget : (b : ℕ) → b < choice.supply_budget
-      → cost_at net (cheapest supply) (cheapest back) i b ≢ Some choice.cost
+      → cost_at net (cheapest supply) (cheapest back) i choice.back b ≢ Some choice.cost
 
-module _ (net : Network) (supply back : List Point) (i : ℕ) (supply_front : IsFront supply) (back_front : IsFront back) where
-  abbrev pressure : ℕ
-  pressure = (fan_at net i).pressure
+-- none of these has a cost with fan i
+abbrev pub NoneWith : (Option ℕ → Type 0) → Network → List Point → List Point → ℕ → Type 0
+NoneWith Own net supply back i =
+    (o : Option ℕ) (b c : ℕ) → Own o → IsOffered net i o b → cost_at net (cheapest supply) (cheapest back) i o b ≢ Some c
 
-  abbrev offer : ℕ → Option Choice
-  offer = shares i (fan_at net i) supply back
+-- the answer is the best of these, or none of them has a cost
+abbrev pub Answers : (Option ℕ → Type 0) → Network → List Point → List Point → ℕ → Option Choice → Type 0
+Answers Own net supply back i None = NoneWith Own net supply back i
+Answers Own net supply back i (Some choice) = IsBestWith Own net supply back i choice
 
-  -- the share of a point within the budget costs no more
-  record IsNoDearer (b c : ℕ) : Type 0 where
-    pub place : ℕ
-    pub point : Point
-    pub there : slice_get supply place ≡ Some point
-    pub within : point.need ≤ b
-    pub choice : Choice
-    pub offered : offer place ≡ Some choice
-    pub cheap : choice.cost ≤ c
+-- no return fan, one, and either
+abbrev pub Shared : Option ℕ → Type 0
+Shared o = o ≡ None
 
-  no_dearer : (b c : ℕ) → b ≤ pressure → cost_at net (cheapest supply) (cheapest back) i b ≡ Some c → IsNoDearer b c
-  no_dearer b c fits is =
-      let all = paid net supply back i b c is in
-      let p = bought supply b all.of_supply all.supply_is in
-      let within = p.within in
-      go all p (cheapest back (pressure - p.point.need)) refl
-      (cheapest-rise back (pressure - b) (pressure - p.point.need) back_front (omega arith) all.of_back all.back_is) where
-        go : (all : IsPaid net supply back i b c) (p : IsBought supply b all.of_supply) (rest : Option ℕ)
-            → cheapest back (pressure - p.point.need) ≡ rest → IsSomeAnd rest (λ y. y ≤ all.of_back) → IsNoDearer b c
-        go all p None is less = absurd less
-        go all p (Some y) is less =
-            let within = p.within in
-            let supply_cost = p.is in
-            let sum = all.is in
-            record {
-              place = p.place;
-              point = p.point;
-              there = p.there;
-              within = within;
-              choice = record {
-                fan = i;
-                cost = (fan_at net i).cost + (p.point.cost + y);
-                supply_budget = p.point.need;
-                return_budget = pressure - p.point.need;
-              };
-              offered = shares-there i (fan_at net i) back supply p.place p.point y p.there (omega arith) is;
-              cheap = omega arith;
-            }
+abbrev pub Beside : Option ℕ → Type 0
+Beside None = ⊥
+Beside (Some j) = ⊤
 
-  pub best_with-none : best_of net supply back i ≡ None
-      → (b : ℕ) → b ≤ pressure → cost_at net (cheapest supply) (cheapest back) i b ≡ None
-  unfolding best_with
-  best_with-none none b fits = go (cost_at net (cheapest supply) (cheapest back) i b) refl where
-    go : (o : Option ℕ) → cost_at net (cheapest supply) (cheapest back) i b ≡ o → o ≡ None
-    go None is = refl
-    go (Some c) is =
-        let less = no_dearer b c fits is in
-        let nothing = first_cheapest-none offer (length supply) none less.place (slice_get_within supply less.place less.point less.there) in
-        absurd (none-some less.choice (sym nothing ∙ less.offered))
+abbrev pub Either : Option ℕ → Type 0
+Either o = ⊤
 
-  best_share : (choice : Choice) → IsFirstCheapest offer (length supply) choice → IsBestWith net supply back i choice
-  best_share choice first =
-      let at = shares-some i (fan_at net i) back supply first.at choice first.is in
-      let same = same_Some _ choice at.is in
-      subst (IsBestWith net supply back i) same (record {
-        fan = refl;
-        return_budget = refl;
-        within = at.within;
-        reached = pays net supply back i at.point.need at.point.cost at.rest (price at.point first.at at.there) at.bought;
-        least = λ b c fits is.
-            (let less = no_dearer b c fits is in
-            let low = first.least less.place less.choice (slice_get_within supply less.place less.point less.there) less.offered in
-            let cost = ap (λ d. d.cost) same in
-            let cheap = less.cheap in
-            omega arith);
-        least_budget = λ b below is.
-            (let within = at.within in
-            let less = no_dearer b _ (omega arith) is in
-            let cost = ap (λ d. d.cost) same in
-            let cheap = less.cheap in
-            let need = less.within in
-            elim (cases_lt less.place first.at) [
-              | inl before ↦ (let dear = first.first less.place less.choice before less.offered in omega arith)
-              | inr later ↦
-                  (let more = later_needs_more supply first.at less.place at.point less.point supply_front later at.there less.there in
-                  omega arith)
-            ]);
-      }) where
-        price : (p : Point) (k : ℕ) → slice_get supply k ≡ Some p → cheapest supply p.need ≡ Some p.cost
-        price p k there =
-            subst (λ q. cheapest supply q.need ≡ Some q.cost) (get_or_from_slice_get supply k p p there)
-            (cheapest-need supply supply_front k p (slice_get_within supply k p there))
+module _ (net : Network) (supply back : List Point) (i : ℕ) where
+  -- none comes before a fan that serves both sides
+  shared_first : (choice : Choice) → IsBestWith Shared net supply back i choice
+      → ((o : Option ℕ) (b c : ℕ) → Beside o → IsOffered net i o b
+      → cost_at net (cheapest supply) (cheapest back) i o b ≡ Some c → choice.cost ≤ c)
+      → IsBestWith Either net supply back i choice
+  shared_first choice best more = record {
+    fan = best.fan;
+    own = tt;
+    return_budget = best.return_budget;
+    offered = best.offered;
+    reached = best.reached;
+    least = λ o b c own. low o b c;
+    first_back = λ o b own earlier. absurd (let none = best.own in first o (subst (λ p. turn_of o < turn_of p) none earlier));
+    least_budget = best.least_budget;
+  } where
+    low : (o : Option ℕ) (b c : ℕ) → IsOffered net i o b → cost_at net (cheapest supply) (cheapest back) i o b ≡ Some c → choice.cost ≤ c
+    low None b c = best.least None b c refl
+    low (Some j) b c = more (Some j) b c tt
 
-  pub best_with-some : (choice : Choice) → best_of net supply back i ≡ Some choice → IsBestWith net supply back i choice
-  unfolding best_with
-  best_with-some choice is = best_share choice (first_cheapest-some offer (length supply) choice is)
+    first : (o : Option ℕ) → turn_of o < 0 → ⊥
+    first o less = omega arith
+
+  -- a fan beside a return fan is the best where a fan for both sides costs more
+  beside_less : (choice : Choice) → IsBestWith Beside net supply back i choice
+      → ((b c : ℕ) → IsOffered net i None b → cost_at net (cheapest supply) (cheapest back) i None b ≡ Some c → choice.cost < c)
+      → IsBestWith Either net supply back i choice
+  beside_less choice best less = record {
+    fan = best.fan;
+    own = tt;
+    return_budget = best.return_budget;
+    offered = best.offered;
+    reached = best.reached;
+    least = λ o b c own. low o b c;
+    first_back = λ o b own. first o b;
+    least_budget = best.least_budget;
+  } where
+    low : (o : Option ℕ) (b c : ℕ) → IsOffered net i o b → cost_at net (cheapest supply) (cheapest back) i o b ≡ Some c → choice.cost ≤ c
+    low None b c offered at = let under = less b c offered at in omega arith
+    low (Some j) b c offered at = best.least (Some j) b c tt offered at
+
+    first : (o : Option ℕ) (b : ℕ) → turn_of o < turn_of choice.back → IsOffered net i o b
+        → cost_at net (cheapest supply) (cheapest back) i o b ≢ Some choice.cost
+    first None b earlier offered at = let under = less b choice.cost offered at in omega arith
+    first (Some j) b earlier offered at = best.first_back (Some j) b tt earlier offered at
+
+  -- where the other kind has no better answer
+  no_less : (shared : Option Choice) (choice : Choice) → Answers Shared net supply back i shared
+      → ((s : Choice) → shared ≡ Some s → choice.cost < s.cost) → (b c : ℕ) → IsOffered net i None b
+      → cost_at net (cheapest supply) (cheapest back) i None b ≡ Some c → choice.cost < c
+  no_less None choice answers less b c offered at = absurd (answers None b c refl offered at)
+  no_less (Some s) choice answers less b c offered at =
+      let low = answers.least None b c refl offered at in
+      let under = less s refl in
+      omega arith
+
+  no_lower : (beside : Option Choice) (choice : Choice) → Answers Beside net supply back i beside
+      → ((w : Choice) → beside ≡ Some w → choice.cost ≤ w.cost) → (o : Option ℕ) (b c : ℕ) → Beside o → IsOffered net i o b
+      → cost_at net (cheapest supply) (cheapest back) i o b ≡ Some c → choice.cost ≤ c
+  no_lower None choice answers more o b c own offered at = absurd (answers o b c own offered at)
+  no_lower (Some w) choice answers more o b c own offered at =
+      let low = answers.least o b c own offered at in
+      let over = more w refl in
+      omega arith
+
+  answers-some : (o : Option Choice) (choice : Choice) (Own : Option ℕ → Type 0) → Answers Own net supply back i o
+      → o ≡ Some choice → IsBestWith Own net supply back i choice
+  answers-some o choice Own answers is = subst (Answers Own net supply back i) is answers
+
+  -- of the best of each kind the cheaper is the best of all, and of equal ones the one that serves both sides
+  pub better : (shared beside : Option Choice) → Answers Shared net supply back i shared → Answers Beside net supply back i beside
+      → Answers Either net supply back i (cheaper price shared beside)
+  better shared beside of_shared of_beside = go (cheaper price shared beside) refl where
+    go : (o : Option Choice) → cheaper price shared beside ≡ o → Answers Either net supply back i o
+    go None none =
+        let both = both-none price shared beside none in
+        none_of (subst (Answers Shared net supply back i) both.0 of_shared) (subst (Answers Beside net supply back i) both.1 of_beside) where
+          none_of : NoneWith Shared net supply back i → NoneWith Beside net supply back i → NoneWith Either net supply back i
+          none_of no_share no_beside None b c own = no_share None b c refl
+          none_of no_share no_beside (Some j) b c own = no_beside (Some j) b c tt
+    go (Some choice) is =
+        cheaper-cases price (IsBestWith Either net supply back i) shared beside choice is
+        (λ s here more. shared_first s (answers-some shared s Shared of_shared here) (no_lower beside s of_beside more))
+        (λ w here less. beside_less w (answers-some beside w Beside of_beside here) (no_less shared w of_shared less))

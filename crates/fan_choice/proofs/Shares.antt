@@ -10,9 +10,13 @@ use Rattle.pareto_front.specs.Front.{cheapest}
 use Rattle.pareto_front.specs.Sweep.{last_cost}
 use Rattle.pareto_front.proofs.Prices.{cheapest-last}
 use Rattle.fan_choice.specs.declared.choice.Choice.{Choice}
-use Rattle.fan_choice.specs.Sharing.{share, share_at, shares, first_cheapest, best_with}
+use Rattle.fan_choice.specs.FirstCheapest.{first_cheapest}
+use Rattle.fan_choice.specs.Sharing.{share, share_at, shares, best_shared}
 use Rattle.fan_choice.proofs.FirstCheapest.{first_cheapest-alike, first_cheapest-end}
 use Rattle.fan_choice.proofs.Rest.{Serves}
+
+abbrev pub price : Choice → ℕ
+price choice = choice.cost
 
 abbrev no_point : Point
 no_point = record { need = 0; cost = 0 }
@@ -37,15 +41,20 @@ module _ (number : ℕ) (fan : NetFan) (back : List Point) where
       ∙ share_at-covered point within
       ∙ ap (share number fan point) (sym (serves rest (omega arith)) ∙ cheapest-last part rest left)
 
+  pub best_shared-is : (supply : List Point)
+      → first_cheapest price (shares number fan supply back) (length supply) ≡ best_shared number fan supply back
+  unfolding best_shared
+  best_shared-is supply = refl
+
   -- supply points beyond the pressure have no share
-  pub best_within : (supply part : List Point) → part ≡ take (length part) supply
+  pub best_shared-part : (supply part : List Point) → part ≡ take (length part) supply
       → All (λ p. fan.pressure < p.need) (drop (length part) supply)
-      → first_cheapest (shares number fan part back) (length part) ≡ best_with number fan supply back
-  unfolding best_with
-  best_within supply part is beyond =
-      first_cheapest-alike (shares number fan part back) (shares number fan supply back) (length part) (λ k below.
+      → best_shared number fan part back ≡ best_shared number fan supply back
+  unfolding best_shared
+  best_shared-part supply part is beyond =
+      first_cheapest-alike price (shares number fan part back) (shares number fan supply back) (length part) (λ k below.
       ap (option_and_then (share_at number fan back)) (same_place k below))
-      ∙ sym (first_cheapest-end (shares number fan supply back) (length part) (length supply) few none) where
+      ∙ sym (first_cheapest-end price (shares number fan supply back) (length part) (length supply) few none) where
         few : length part ≤ length supply
         few = omega (arith, length-take (length part) supply, ap length is)
 

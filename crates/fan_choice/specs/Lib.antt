@@ -1,2 +1,4 @@
 pub mod Choice
+pub mod FirstCheapest
 pub mod Sharing
+pub mod OwnFans

@@ -3,15 +3,24 @@ ghost use Rattle.std.specs.Prelude.{◌≡◌, ◌<◌, ◌≤◌, All, drop, le
 ghost use Rattle.duct_definitions.specs.declared.limits.TheConstants.{MAX_FAN_COST};
 ghost use Rattle.pareto_front.specs.Front.{IsFront};
 ghost use Rattle.pareto_front.specs.Sweep.{last_cost};
-ghost use Rattle.fan_choice.specs.Sharing.{best_with, cheaper, share};
+ghost use Rattle.fan_choice.specs.Sharing.{best_shared, share};
 
+use crate::cheaper::{Offer, cheaper};
 use crate::choice::{COST_LIMIT, Choice};
 use net_model::NetFan;
 use pareto_front::Point;
 
+impl Offer for Choice {
+    ghost price = { λ choice. choice.cost };
+
+    fn cost(&self) -> u64 {
+        self.cost
+    }
+}
+
 /// The first cheapest way to share the fan's pressure out. The supply points rise in need, so the return points that
 /// are left for them only get fewer, and each is passed once.
-pub(crate) fn best_with(
+pub(crate) fn best_shared(
     number: u32,
     fan: &NetFan,
     supply: &[Point],
@@ -19,15 +28,15 @@ pub(crate) fn best_with(
 ) -> Option<Choice>
     requires fan { fan.now.cost ≤ MAX_FAN_COST }
     requires supply_front { IsFront supply.now }
+    requires affordable { All (λ point. point.need ≤ fan.now.pressure) supply.now }
     requires back_front { IsFront back.now }
     requires supply_costs { All (λ point. point.cost < COST_LIMIT) supply.now }
     requires back_costs { All (λ point. point.cost < COST_LIMIT) back.now }
-    ensures { result ≡ best_with number fan.now supply.now back.now }
+    ensures { result ≡ best_shared number fan.now supply.now back.now }
 {
-    let affordable = within(supply, fan.pressure);
     let mut rest = back;
     let mut best = None;
-    for point in affordable {
+    for point in supply {
         rest = within(rest, fan.pressure - point.need);
         best = cheaper(best, share(number, fan, *point, rest));
     }
@@ -45,6 +54,7 @@ fn share(number: u32, fan: &NetFan, point: Point, rest: &[Point]) -> Option<Choi
     let last = rest.last()?;
     Some(Choice {
         fan: number,
+        back: None,
         cost: fan.cost + point.cost + last.cost,
         supply_budget: point.need,
         return_budget: fan.pressure - point.need,
@@ -52,7 +62,7 @@ fn share(number: u32, fan: &NetFan, point: Point, rest: &[Point]) -> Option<Choi
 }
 
 /// The points that need no more than this, dPa. It reads from the last point back, and no further than it must.
-fn within(points: &[Point], need: u64) -> &[Point]
+pub(crate) fn within(points: &[Point], need: u64) -> &[Point]
     requires { IsFront points.now }
     ensures part { result.now ≡ take (length result.now) points.now }
     ensures within { All (λ point. point.need ≤ need) result.now }
@@ -63,15 +73,4 @@ fn within(points: &[Point], need: u64) -> &[Point]
         count -= 1;
     }
     &points[..count]
-}
-
-/// The cheaper of the two, the first of equal ones, or the one that is there.
-pub(crate) fn cheaper(best: Option<Choice>, next: Option<Choice>) -> Option<Choice>
-    ensures { result ≡ cheaper best next }
-{
-    match (best, next) {
-        (Some(old), Some(new)) if new.cost < old.cost => next,
-        (Some(_), _) => best,
-        (None, _) => next,
-    }
 }

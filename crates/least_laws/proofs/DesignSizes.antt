@@ -1,5 +1,5 @@
 -- A design that meets the rules, as sizes of a whole side: path losses are sums along routes, and the cost is the
--- fan's and the sums of prices of both sides.
+-- fans' and the sums of prices of both sides.
 use Rattle.std.proofs.Common.{◌≡◌, ℕ, zero, suc, ◌+◌, ◌≤◌, max, true, refl, arith, ap, sym, ◌∙◌, inl, inr, Option, Some, None, List, [], ◌∷◌, map}
 use Rattle.std.proofs.Math.Path.{fun_ext}
 use Rattle.std.proofs.lemmas.List.Sums.{sum_by-cons, sum_by-append}
@@ -10,8 +10,8 @@ use Rattle.duct_units.specs.declared.side.Side.TheVariants.{Supply, Return}
 use Rattle.duct_definitions.specs.declared.design.Design.{Design}
 use Rattle.duct_definitions.specs.Tree.{Tree, IsTree, section_count, sections, neighbour, side, leaves, is_leaf, way}
 use Rattle.duct_units.specs.Side.{same_side}
-use Rattle.duct_definitions.specs.Network.{Network, pair_at, fan_at}
-use Rattle.duct_definitions.specs.Designs.{Meets, size_beside, pair_of, loss_of, price_of, path_loss, worst, cost}
+use Rattle.duct_definitions.specs.Network.{Network, pair_at}
+use Rattle.duct_definitions.specs.Designs.{Meets, size_beside, pair_of, loss_of, price_of, path_loss, worst, fans_cost, cost}
 use Rattle.design_laws.proofs.Among.{Among, Among-filtered, le-max}
 use Rattle.duct_definitions.proofs.WayLaws.{way-at_fan, way-beside}
 use Rattle.design_laws.proofs.Ways.{neighbour_side, same_side-true}
@@ -76,12 +76,6 @@ module _ (t : Tree) (tree : IsTree t) where
       ∙ ap (λ z. w s + z) rest
       ∙ sym (along-on (next_in t) (next_in-falls t tree) w (Fan x) s n is (λ apart. cc apart)))
 
-same_end-equal : (x y : Side) → same_side x y ≡ true → x ≡ y
-same_end-equal Supply Supply is = refl
-same_end-equal Return Return is = refl
-same_end-equal Supply Return is = cc
-same_end-equal Return Supply is = cc
-
 gated-sides : (x : Side) (n : ℕ) → gated (same_side Supply x) n + gated (same_side Return x) n ≡ n
 gated-sides Supply n = omega arith
 gated-sides Return n = omega arith
@@ -105,10 +99,10 @@ max-le f a b (x ∷ xs) start each =
     max-le f (max a (f x)) b xs (omega arith) (λ y later. each y (inr later))
 
 module _ (net : Network) (tree : IsTree net.tree) (d : Design) where
-  -- the cost is the fan's and the sums of the prices of both sides
+  -- the cost is the fans' and the sums of the prices of both sides
   pub cost-sides : cost net d
       ≡ price_sum (ducts_of net) (sizes_in d) (Fan Supply) + price_sum (ducts_of net) (sizes_in d) (Fan Return)
-      + (fan_at net d.fan).cost
+      + fans_cost net d.fan d.back
   cost-sides =
       let n : ℕ = section_count net.tree in
       let w : ℕ → ℕ = price (ducts_of net) (sizes_in d) in
@@ -120,7 +114,7 @@ module _ (net : Network) (tree : IsTree net.tree) (d : Design) where
       sym (ap (λ b. gated b (w s) + part Return s) (goes_by-side net.tree tree Supply s)
       ∙ ap (λ b. gated (same_side Supply (side net.tree s)) (w s) + gated b (w s)) (goes_by-side net.tree tree Return s)
       ∙ gated-sides (side net.tree s) (w s))) in
-      ap (λ z. z + (fan_at net d.fan).cost) (whole ∙ split ∙ total-add (part Supply) (part Return) n)
+      ap (λ z. z + fans_cost net d.fan d.back) (whole ∙ split ∙ total-add (part Supply) (part Return) n)
 
   path_loss-along : (x : Side) (leaf : ℕ)
       → path_loss net d leaf ≡ along (next_in net.tree) (loss (ducts_of net) (sizes_in d)) (Fan x) leaf
@@ -138,7 +132,7 @@ module _ (net : Network) (tree : IsTree net.tree) (d : Design) where
         (pair.0, chosen-pair_of net d s ∙ pair.1);
     within = λ leaf less end by.
         let on_side : x ≡ side net.tree leaf =
-        same_end-equal x (side net.tree leaf) (sym (goes_by-side net.tree tree x leaf) ∙ by) in
+        same_side-true x (side net.tree leaf) (sym (goes_by-side net.tree tree x leaf) ∙ by) in
         let among = Among-leaves net.tree x leaf (end-leaf net.tree leaf less end) (sym on_side) in
         let most : path_loss net d leaf ≤ worst net d x = le-max (path_loss net d) 0 leaf (leaves net.tree x) among in
         let same = path_loss-along x leaf in

@@ -1,18 +1,17 @@
 -- Losses and prices of a network are bounded, and so are their sums.
-use Rattle.std.proofs.Common.{◌≡◌, ℕ, zero, suc, ◌+◌, ◌*◌, ◌-◌, ◌<◌, ◌≤◌, List, [], ◌∷◌, length, Option, Some, None, refl, ap, ◌∙◌, sym, subst, inl, inr, get_or, arith}
+use Rattle.std.proofs.Common.{◌≡◌, ℕ, ◌+◌, ◌*◌, ◌<◌, ◌≤◌, List, [], length, Option, Some, None, ap, ◌∙◌, sym, subst, inl, inr, get_or, arith}
 use Rattle.std.proofs.lemmas.Bool.{cases_lt}
 use Rattle.std.proofs.lemmas.List.{get_or_past}
 use Rattle.std.proofs.lemmas.List.FromFn.{length-range_with_len}
 use Rattle.std.proofs.lemmas.List.Sums.{sum_by-le, sum_by-cons}
 use Rattle.std.proofs.lemmas.Option.{unwrap_or-slice_get}
 use Rattle.std.specs.Prelude.{All, slice_get, unwrap_or, sum_by}
-use Rattle.std.specs.List.{range_with_len}
 use Rattle.duct_definitions.specs.declared.design.Pair.{Pair}
 use Rattle.duct_definitions.specs.declared.design.Design.{Design}
-use Rattle.duct_definitions.specs.declared.limits.TheConstants.{MAX_SECTIONS, MAX_LOSS, MAX_PRICE, MAX_FAN_COST}
-use Rattle.duct_definitions.specs.Tree.{Tree, IsTree, section_count, sections, neighbour, from_neighbour, way}
-use Rattle.duct_definitions.specs.Network.{Network, IsNetwork, IsSection, IsBounded, IsFan, pairs_of, fan_at, no_fan}
-use Rattle.duct_definitions.specs.Designs.{pair_of, loss_of, price_of, path_loss, cost}
+use Rattle.duct_definitions.specs.declared.limits.TheConstants.{MAX_SECTIONS, MAX_LOSS, MAX_PRICE}
+use Rattle.duct_definitions.specs.Tree.{section_count, sections, neighbour, from_neighbour, way}
+use Rattle.duct_definitions.specs.Network.{Network, IsNetwork, IsBounded, pairs_of}
+use Rattle.duct_definitions.specs.Designs.{pair_of, loss_of, price_of, path_loss}
 use Rattle.duct_definitions.proofs.TreeLaws.{few_sections}
 use Rattle.duct_definitions.proofs.WayLaws.{way-first, way-short}
 

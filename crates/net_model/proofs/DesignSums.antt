@@ -1,18 +1,18 @@
 -- Sums of a design, and the greatest of them, as far as a walk over the sections has come.
-use Rattle.std.proofs.Common.{◌≡◌, ℕ, zero, suc, ◌+◌, ◌*◌, ◌-◌, ◌<◌, ◌≤◌, List, [], ◌∷◌, length, map, drop, max, Bool, true, false, cond, Option, Some, None, IfSome, refl, ap, ◌∙◌, sym, subst, get_or, arith}
+use Rattle.std.proofs.Common.{◌≡◌, ℕ, suc, ◌+◌, ◌*◌, ◌-◌, ◌<◌, ◌≤◌, List, ◌∷◌, length, map, drop, max, Bool, true, false, cond, Option, Some, None, IfSome, refl, ap, ◌∙◌, sym, subst, get_or, arith}
 use Rattle.std.proofs.lemmas.Bool.{and_parts, ltb-true}
 use Rattle.std.proofs.lemmas.List.{drop_all}
 use Rattle.std.proofs.lemmas.List.Sums.{sum_by-cons}
 use Rattle.std.proofs.Math.Seq.{drop-cons}
-use Rattle.std.specs.Prelude.{IsTrue, All, filter, fold, sum_by}
+use Rattle.std.specs.Prelude.{IsTrue, filter, fold, sum_by}
 use Rattle.std.specs.List.{range_with_len}
 use Rattle.duct_units.specs.declared.side.Side.{Side}
 use Rattle.duct_definitions.specs.declared.design.Design.{Design}
 use Rattle.duct_definitions.specs.declared.limits.TheConstants.{MAX_SECTIONS, MAX_LOSS, MAX_PRICE, MAX_FAN_COST}
-use Rattle.duct_definitions.specs.Tree.{Tree, IsTree, section_count, sections, neighbour, side, is_leaf, all_leaves, leaves, from_neighbour, way}
+use Rattle.duct_definitions.specs.Tree.{Tree, section_count, sections, neighbour, side, is_leaf, all_leaves, from_neighbour, way}
 use Rattle.duct_units.specs.Side.{same_side}
-use Rattle.duct_definitions.specs.Network.{Network, IsNetwork, IsFan, fan_at}
-use Rattle.duct_definitions.specs.Designs.{pair_of, loss_of, price_of, path_loss, worst, cost}
+use Rattle.duct_definitions.specs.Network.{Network, IsNetwork}
+use Rattle.duct_definitions.specs.Designs.{pair_of, loss_of, price_of, path_loss, worst, fans_cost, cost}
 use Rattle.duct_definitions.proofs.SectionLists.{leaves_of_side}
 use Rattle.duct_definitions.proofs.TreeLaws.{neighbour_earlier}
 use Rattle.net_model.proofs.Bounds.{path_loss-le, path_loss-first, prices-le}
@@ -59,17 +59,15 @@ pub walked-all : (net : Network) (d : Design) (leaf : ℕ) (at : Option ℕ) (lo
 walked-all net d leaf None lost at_fan walked = let whole = walked.rest in omega arith
 walked-all net d leaf (Some s) lost at_fan walked = absurd (at_fan s refl)
 
--- the fan's cost and the prices of the sections before s
+-- the fans' costs and the prices of the sections before s
 pub record IsAdded (net : Network) (d : Design) (s total : ℕ) : Type 0 where
   pub rest : total + sum_by (λ x. price_of (pair_of net d x)) (range_with_len s (section_count net.tree - s)) ≡ cost net d
 
-pub cost-le : (net : Network) (d : Design) → IsNetwork net → IsFan (fan_at net d.fan) → cost net d ≤ MAX_SECTIONS * MAX_PRICE + MAX_FAN_COST
-cost-le net d valid fan =
-    let most = prices-le net d valid in
-    let fan_most = fan.cost in
-    omega arith
+pub cost-le : (net : Network) (d : Design) → IsNetwork net → fans_cost net d.fan d.back ≤ 2 * MAX_FAN_COST
+    → cost net d ≤ MAX_SECTIONS * MAX_PRICE + 2 * MAX_FAN_COST
+cost-le net d valid fans = let most = prices-le net d valid in omega arith
 
-pub added-none : (net : Network) (d : Design) → IsAdded net d 0 (fan_at net d.fan).cost
+pub added-none : (net : Network) (d : Design) → IsAdded net d 0 (fans_cost net d.fan d.back)
 added-none net d =
     let price : ℕ → ℕ = λ x. price_of (pair_of net d x) in
     let all : section_count net.tree - 0 ≡ section_count net.tree = omega arith in
@@ -92,11 +90,12 @@ pub added-more : (net : Network) (d : Design) (s total : ℕ) → s < section_co
     → IsAdded net d (s + 1) (total + price_of (pair_of net d s))
 added-more net d s total within added = record { rest = added-sum net d s total within added }
 
-pub added-fits : (net : Network) (d : Design) (s total : ℕ) → IsNetwork net → IsFan (fan_at net d.fan) → s < section_count net.tree
-    → IsAdded net d s total → total + price_of (pair_of net d s) ≤ MAX_SECTIONS * MAX_PRICE + MAX_FAN_COST
-added-fits net d s total valid fan within added =
+pub added-fits : (net : Network) (d : Design) (s total : ℕ) → IsNetwork net → fans_cost net d.fan d.back ≤ 2 * MAX_FAN_COST
+    → s < section_count net.tree → IsAdded net d s total
+    → total + price_of (pair_of net d s) ≤ MAX_SECTIONS * MAX_PRICE + 2 * MAX_FAN_COST
+added-fits net d s total valid fans within added =
     let whole = added-sum net d s total within added in
-    let most = cost-le net d valid fan in
+    let most = cost-le net d valid fans in
     omega arith
 
 pub added-all : (net : Network) (d : Design) (s total : ℕ) → section_count net.tree ≤ s → IsAdded net d s total → total ≡ cost net d

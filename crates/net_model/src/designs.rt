@@ -6,19 +6,34 @@ ghost use Rattle.std.specs.Prelude.{◌≡◌, ◌+◌, ◌*◌, ◌<◌, ◌≤
 ghost use Rattle.duct_definitions.specs.Tree.{section_count, neighbour, side as side_of, is_leaf};
 ghost use Rattle.duct_units.specs.Side.{same_side};
 ghost use Rattle.duct_definitions.specs.Network.{IsBounded, columns};
-ghost use Rattle.duct_definitions.specs.Designs.{Fits, Meets, size_beside, pair_of, loss_of, price_of, path_loss, worst, cost};
+ghost use Rattle.duct_definitions.specs.Designs.{Fits, Covers, Meets, size_beside, pair_of, loss_of, price_of, path_loss, worst, return_fan_cost, fans_cost, cost};
 
 use crate::network::Network;
 use duct_definitions::{Design, MAX_FAN_COST, MAX_LOSS, MAX_PRICE, MAX_SECTIONS, Pair};
 use duct_units::Side;
 
-/// Whether every section's pair is there and the fan's pressure covers the worst supply and the worst return loss.
+/// Whether every section's pair is there and the fans cover the worst supply and the worst return loss.
 pub fn meets(net: &Network, d: &Design) -> bool
     requires { Fits net.now d.now }
     ensures { IsTrue result ↔ Meets net.now d.now }
 {
-    has_pairs(net, d)
-        && worst(net, d, Side::Supply) + worst(net, d, Side::Return) <= net.fan(d.fan).pressure
+    has_pairs(net, d) && covers(net, d)
+}
+
+/// Whether the fan's pressure covers both sides; or with a return fan the supply side, and the return fan's the return
+/// side.
+fn covers(net: &Network, d: &Design) -> bool
+    requires fits { Fits net.now d.now }
+    requires pairs { (s : ℕ) → s < section_count net.now.tree → IsSome (pair_of net.now d.now s) }
+    ensures { IsTrue result ↔ Covers net.now d.now d.now.back }
+{
+    let supply = worst(net, d, Side::Supply);
+    let back = worst(net, d, Side::Return);
+    let pressure = net.fan(d.fan).pressure;
+    match d.back {
+        None => supply + back <= pressure,
+        Some(i) => supply <= pressure && back <= net.return_fan(i).pressure,
+    }
 }
 
 /// What the sections from a leaf to the fan lose together, dPa.
@@ -55,19 +70,40 @@ pub fn worst(net: &Network, d: &Design, side: Side) -> u64
     most
 }
 
-/// The prices of all sections together with the fan's cost, cents.
+/// The prices of all sections together with the fans' costs, cents.
 pub fn cost(net: &Network, d: &Design) -> u64
     requires fits { Fits net.now d.now }
     requires pairs { (s : ℕ) → s < section_count net.now.tree → IsSome (pair_of net.now d.now s) }
     ensures value { result ≡ cost net.now d.now }
-    ensures bound { result ≤ MAX_SECTIONS * MAX_PRICE + MAX_FAN_COST }
+    ensures bound { result ≤ MAX_SECTIONS * MAX_PRICE + 2 * MAX_FAN_COST }
 {
     let tree = net.tree();
-    let mut cost = net.fan(d.fan).cost;
+    let mut cost = fans_cost(net, d);
     for s in 0..tree.len() {
         cost += price_at(net, d, s);
     }
     cost
+}
+
+/// What the fan costs, with the return fan where there is one, cents.
+fn fans_cost(net: &Network, d: &Design) -> u64
+    requires { Fits net.now d.now }
+    ensures value { result ≡ fans_cost net.now d.now.fan d.now.back }
+    ensures bound { result ≤ 2 * MAX_FAN_COST }
+{
+    net.fan(d.fan).cost + return_fan_cost(net, d)
+}
+
+/// What the return fan costs, cents; 0 where the fan serves both sides.
+fn return_fan_cost(net: &Network, d: &Design) -> u64
+    requires { Fits net.now d.now }
+    ensures value { result ≡ return_fan_cost net.now d.now.back }
+    ensures bound { result ≤ MAX_FAN_COST }
+{
+    match d.back {
+        None => 0,
+        Some(i) => net.return_fan(i).cost,
+    }
 }
 
 /// What section `s` loses and costs in the design; None where its size can't be joined to its neighbour's.

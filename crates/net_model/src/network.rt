@@ -1,14 +1,14 @@
 //! The network, and what stands where in it.
-ghost use Rattle.std.specs.Prelude.{◌≡◌, ◌<◌, length, Some, None};
+ghost use Rattle.std.specs.Prelude.{◌≡◌, ◌<◌, [], length, Some, None};
 ghost use Rattle.duct_definitions.specs.Tree.{section_count, IsTree};
-ghost use Rattle.duct_definitions.specs.Network.{IsNetwork, IsFan, IsBounded, size_count, size_name, section_name, columns, pair_at, fan_at, cap};
+ghost use Rattle.duct_definitions.specs.Network.{IsNetwork, IsFan, AreFans, IsBounded, size_count, size_name, section_name, columns, pair_at, fan_at, return_fan_at, greatest_pressure, cap};
 
 use air_tree::AirTree;
 use duct_definitions::{NetFan, Pair};
 use duct_units::{List, Name};
 use std::marker::Model;
 
-/// A tree of sections, the sizes of each, what each pair of sizes loses and costs, and fans.
+/// A tree of sections, the sizes of each, what each pair of sizes loses and costs, and the fans of both lists.
 #[derive(Drop)]
 pub struct Network {
     name: Name,
@@ -17,6 +17,7 @@ pub struct Network {
     sizes: List<List<Name>>,
     pairs: List<List<Option<Pair>>>,
     fans: List<NetFan>,
+    return_fans: List<NetFan>,
 }
 
 impl Model for Network {
@@ -33,8 +34,8 @@ impl Model for Network {
 }
 
 impl Network {
-    /// The network of a tree, with one entry for each section in each list. The pairs of a section stand by its
-    /// own size and then by its neighbour's.
+    /// The network of a tree, with one entry for each section in each list, and without return fans. The pairs of a
+    /// section stand by its own size and then by its neighbour's.
     pub fn new(
         name: Name,
         tree: AirTree,
@@ -50,6 +51,7 @@ impl Network {
           sizes = sizes;
           pairs = pairs;
           fans = fans;
+          return_fans = [];
         }) }
         ensures { result ≡ record {
           name = name;
@@ -58,16 +60,29 @@ impl Network {
           sizes = sizes;
           pairs = pairs;
           fans = fans;
+          return_fans = [];
         } }
     {
+        let fans = fans.into_vec();
+        let no_fans = Vec::new(*fans.allocator());
         Network {
             name,
             tree,
             names,
             sizes,
             pairs,
-            fans,
+            fans: List::from_vec(fans),
+            return_fans: List::from_vec(no_fans),
         }
+    }
+
+    /// The same network with these return fans.
+    pub fn with_return_fans(mut self, fans: List<NetFan>) -> Network
+        requires { AreFans fans }
+        ensures { result ≡ record self { return_fans = fans } }
+    {
+        self.return_fans = fans;
+        self
     }
 
     /// The name of the project.
@@ -128,6 +143,22 @@ impl Network {
         self.fans.as_slice()[i as usize]
     }
 
+    /// How many return fans are on offer.
+    pub fn return_fan_count(&self) -> u32
+        ensures { result ≡ length self.now.return_fans }
+    {
+        self.return_fans.as_slice().len() as u32
+    }
+
+    /// Return fan `i`, from 0 in file order.
+    pub fn return_fan(&self, i: u32) -> NetFan
+        requires { i < length self.now.return_fans }
+        ensures value { result ≡ return_fan_at self.now i }
+        ensures bounds { IsFan result }
+    {
+        self.return_fans.as_slice()[i as usize]
+    }
+
     /// How many sizes stand beside section `s`: its neighbour's, and 1 at the fan.
     pub fn columns(&self, s: u32) -> u32
         requires { s < section_count self.now.tree }
@@ -153,14 +184,21 @@ impl Network {
         pairs.as_slice()[at]
     }
 
-    /// The greatest fan pressure, dPa; 0 without fans.
+    /// The greatest pressure of all fans, dPa; 0 without fans.
     pub fn cap(&self) -> u64
         ensures { result ≡ cap self.now }
     {
-        let mut most = 0;
-        for fan in self.fans.as_slice() {
-            most = most.max(fan.pressure);
-        }
-        most
+        greatest_pressure(self.fans.as_slice()).max(greatest_pressure(self.return_fans.as_slice()))
     }
+}
+
+/// The greatest pressure of these fans, dPa; 0 without fans.
+fn greatest_pressure(fans: &[NetFan]) -> u64
+    ensures { result ≡ greatest_pressure fans.now }
+{
+    let mut most = 0;
+    for fan in fans {
+        most = most.max(fan.pressure);
+    }
+    most
 }

@@ -14,9 +14,11 @@ network = network_of (codes "order")
     (None ∷ pair 20 5 ∷ pair 30 5 ∷ pair 20 5 ∷ [])
     ∷ [])
 
+-- k1 of the first section, although the second then has its later size
 abbrev pub design : Design
-design = record { fan = 0; sizes = 0 ∷ 1 ∷ [] }
+design = record { fan = 0; back = None; sizes = 0 ∷ 1 ∷ [] }
 
+-- the text of the design, line by line
 abbrev pub printed : List ℕ
 printed =
     codes "design 1\n"

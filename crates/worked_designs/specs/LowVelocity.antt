@@ -6,6 +6,7 @@ use Rattle.duct_definitions.specs.Network.{Network}
 use Rattle.worked_designs.specs.Entries.{pair, fan, section, network_of}
 use Rattle.worked_designs.specs.SmallSystem.{round}
 
+-- the main section has no pair left
 abbrev pub network : Network
 network = network_of (codes "small")
     (fan (codes "F1") 400 42500 ∷ fan (codes "F2") 900 63750 ∷ [])
@@ -23,6 +24,7 @@ refusals =
     ∷ record { name = codes "taper"; count = 0 }
     ∷ []
 
+-- the text where no design meets the rules
 abbrev pub printed : List ℕ
 printed =
     codes "design 1\n"

@@ -14,9 +14,11 @@ network = network_of (codes "duo")
     (pair 50 10 ∷ pair 30 20 ∷ pair 30 40 ∷ None ∷ [])
     ∷ [])
 
+-- k2 with j1 costs 130; k1 with j2 would cost 140, and k1 with j1 loses 70 dPa
 abbrev pub design : Design
-design = record { fan = 0; sizes = 1 ∷ 0 ∷ [] }
+design = record { fan = 0; back = None; sizes = 1 ∷ 0 ∷ [] }
 
+-- the text of the design, line by line
 abbrev pub printed : List ℕ
 printed =
     codes "design 1\n"

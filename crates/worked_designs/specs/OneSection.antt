@@ -5,15 +5,18 @@ use Rattle.duct_definitions.specs.declared.design.Design.{Design}
 use Rattle.duct_definitions.specs.Network.{Network}
 use Rattle.worked_designs.specs.Entries.{pair, fan, section, network_of}
 
+-- the section loses 60 dPa, and the fan gives 60
 abbrev pub network : Network
 network = network_of (codes "one")
     (fan (codes "f1") 60 100 ∷ [])
     (section (codes "a") Supply None (codes "k1" ∷ []) (pair 60 500 ∷ [])
     ∷ [])
 
+-- the one choice, which costs 500 and 100
 abbrev pub design : Design
-design = record { fan = 0; sizes = 0 ∷ [] }
+design = record { fan = 0; back = None; sizes = 0 ∷ [] }
 
+-- the text of the design, line by line
 abbrev pub printed : List ℕ
 printed =
     codes "design 1\n"

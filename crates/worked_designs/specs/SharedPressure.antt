@@ -5,6 +5,7 @@ use Rattle.duct_definitions.specs.declared.design.Design.{Design}
 use Rattle.duct_definitions.specs.Network.{Network}
 use Rattle.worked_designs.specs.Entries.{pair, fan, section, network_of}
 
+-- the cheap sizes lose 60 dPa each, and the fan gives 110
 abbrev pub network : Network
 network = network_of (codes "sides")
     (fan (codes "f1") 110 0 ∷ [])
@@ -12,9 +13,11 @@ network = network_of (codes "sides")
     ∷ section (codes "r") Return None (codes "k1" ∷ codes "k2" ∷ []) (pair 60 10 ∷ pair 40 30 ∷ [])
     ∷ [])
 
+-- the supply section has the size that loses less
 abbrev pub design : Design
-design = record { fan = 0; sizes = 1 ∷ 0 ∷ [] }
+design = record { fan = 0; back = None; sizes = 1 ∷ 0 ∷ [] }
 
+-- the text of the design, line by line
 abbrev pub printed : List ℕ
 printed =
     codes "design 1\n"

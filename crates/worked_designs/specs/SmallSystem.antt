@@ -1,4 +1,4 @@
--- A main section with two branches, two sizes for each, and a dearer design beside the best one.
+-- A main section with two branches, two sizes for each, and a more expensive design beside the best one.
 use Rattle.std.specs.Prelude.{ℕ, List, [], ◌∷◌, ◌++◌, codes, Some, None}
 use Rattle.duct_units.specs.declared.side.Side.TheVariants.{Supply}
 use Rattle.duct_definitions.specs.declared.design.Design.{Design}
@@ -19,9 +19,11 @@ network = network_of (codes "small")
     ∷ section (codes "right") Supply (Some 0) round (None ∷ None ∷ pair 283 61200 ∷ pair 283 60800 ∷ [])
     ∷ [])
 
+-- the best design
 abbrev pub design : Design
-design = record { fan = 0; sizes = 1 ∷ 1 ∷ 1 ∷ [] }
+design = record { fan = 0; back = None; sizes = 1 ∷ 1 ∷ 1 ∷ [] }
 
+-- the text of the design, line by line
 abbrev pub printed : List ℕ
 printed =
     codes "design 1\n"
@@ -35,12 +37,13 @@ printed =
     ++ codes "cost 149900\n"
     ++ codes "end\n"
 
--- the cheaper size on the left wants the greater fan
-abbrev pub dearer_design : Design
-dearer_design = record { fan = 1; sizes = 1 ∷ 0 ∷ 1 ∷ [] }
+-- the cheaper size on the left needs the greater fan
+abbrev pub second_design : Design
+second_design = record { fan = 1; back = None; sizes = 1 ∷ 0 ∷ 1 ∷ [] }
 
-abbrev pub dearer_printed : List ℕ
-dearer_printed =
+-- its text, line by line
+abbrev pub second_printed : List ℕ
+second_printed =
     codes "design 1\n"
     ++ codes "project small\n"
     ++ codes "fan F2 900 63750\n"

@@ -5,6 +5,7 @@ use Rattle.duct_definitions.specs.declared.design.Design.{Design}
 use Rattle.duct_definitions.specs.Network.{Network}
 use Rattle.worked_designs.specs.Entries.{pair, fan, section, network_of}
 
+-- every choice of sizes costs 15, and the fans cost nothing
 abbrev pub network : Network
 network = network_of (codes "ties")
     (fan (codes "f1") 60 0 ∷ fan (codes "f2") 45 0 ∷ [])
@@ -13,9 +14,11 @@ network = network_of (codes "ties")
     ∷ section (codes "b") Supply None (codes "k1" ∷ codes "k2" ∷ []) (pair 30 5 ∷ pair 10 5 ∷ [])
     ∷ [])
 
+-- f1; then k2, which loses less than k1 and stands before k3; then k1 of the other section
 abbrev pub design : Design
-design = record { fan = 0; sizes = 1 ∷ 0 ∷ [] }
+design = record { fan = 0; back = None; sizes = 1 ∷ 0 ∷ [] }
 
+-- the text of the design, line by line
 abbrev pub printed : List ℕ
 printed =
     codes "design 1\n"

@@ -1,6 +1,4 @@
 use Rattle.std.proofs.Common.{refl}
-use Rattle.std.specs.Fmt.{digits}
-use Rattle.duct_units.specs.Lines.{line}
 use Rattle.worked_designs.specs.TwoSides.{network, design}
 use Rattle.duct_definitions.proofs.Valid.{IsNetwork-tested}
 use Rattle.design_laws.proofs.Best.{IsBest-tested}
@@ -11,7 +9,3 @@ returns-clause-valid c = IsNetwork-tested network refl
 
 pub returns-clause-best : goal.returns-clause-best
 returns-clause-best c = IsBest-tested network design refl refl
-
-pub returns-clause-printed : goal.returns-clause-printed
-unfolding line digits
-returns-clause-printed c = refl

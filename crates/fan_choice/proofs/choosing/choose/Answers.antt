@@ -1,17 +1,21 @@
-use Rattle.std.proofs.Common.{◌≡◌, ◌∙◌, length, ap, sym, arith}
-use Rattle.fan_choice.specs.Sharing.{first_cheapest, best_of}
+use Rattle.std.proofs.Common.{◌≡◌, ◌∙◌, List, length, ap, sym, arith}
+use Rattle.pareto_front.specs.declared.point.Point.{Point}
+use Rattle.fan_choice.specs.FirstCheapest.{first_cheapest}
 use Rattle.fan_choice.proofs.Answered.{answer-some, answer-unpriced, answer-none}
+use Rattle.fan_choice.proofs.Chosen.{bests}
+use Rattle.fan_choice.proofs.Shares.{price}
 use Rattle.fan_choice.proofs.choosing.choose.Goals as goal
 
 -- the loop has gone over all fans
 chosen : (c : goal.After-loop-number)
-    → first_cheapest (best_of c.args.net.now c.args.supply.now c.args.back.now) (length c.args.net.now.fans) ≡ c.loop-number.best
+    → first_cheapest price (bests c.args.net.now c.args.supply.now c.args.back.now) (length c.args.net.now.fans) ≡ c.loop-number.best
 chosen c =
     let over = c.loop-number-test.false in
     let all : length c.args.net.now.fans ≡ c.loop-number.number = omega (arith, c.fan_count-number-end.ensures) in
-    ap (first_cheapest (best_of c.args.net.now c.args.supply.now c.args.back.now)) all
-    ∙ ap (λ supply. first_cheapest (best_of c.args.net.now supply c.args.back.now) c.loop-number.number) (sym c.points-supply_points.ensures.value)
-    ∙ ap (λ back. first_cheapest (best_of c.args.net.now c.points-supply_points.result.now back) c.loop-number.number) (sym c.points-back_points.ensures.value)
+    let best : List Point → List Point → _ = λ supply back. first_cheapest price (bests c.args.net.now supply back) c.loop-number.number in
+    ap (first_cheapest price (bests c.args.net.now c.args.supply.now c.args.back.now)) all
+    ∙ ap (λ supply. best supply c.args.back.now) (sym c.points-supply_points.ensures.value)
+    ∙ ap (best c.points-supply_points.result.now) (sym c.points-back_points.ensures.value)
     ∙ sym c.loop-number.invariant
 
 pub returns-clause-some : goal.returns-clause-some

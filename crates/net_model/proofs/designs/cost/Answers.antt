@@ -1,7 +1,6 @@
-use Rattle.std.proofs.Common.{◌≡◌, ◌<◌, ◌≤◌, ◌+◌, ℕ, ap, ◌∙◌, sym, subst, arith}
-use Rattle.duct_definitions.specs.declared.design.NetFan.{NetFan}
+use Rattle.std.proofs.Common.{◌≡◌, ◌≤◌, ◌+◌, ◌*◌, ℕ, ap, ◌∙◌, sym, subst, arith}
+use Rattle.duct_definitions.specs.declared.limits.TheConstants.{MAX_FAN_COST}
 use Rattle.duct_definitions.specs.Tree.{Tree, section_count}
-use Rattle.duct_definitions.specs.Network.{IsFan, fan_at}
 use Rattle.duct_definitions.specs.Designs.{pair_of, price_of, cost}
 use Rattle.net_model.proofs.DesignSums.{IsAdded, added-none, added-more, added-fits, added-all, cost-le}
 use Rattle.net_model.proofs.designs.cost.Goals as goal
@@ -10,15 +9,14 @@ pub overflow_add-cost : goal.overflow_add-cost
 overflow_add-cost c =
     let net = c.args.net.now in
     let d = c.args.d.now in
-    let fan = subst (λ (f : NetFan). IsFan f) c.fan-cost.ensures.value c.fan-cost.ensures.bounds in
+    let fans = subst (λ n. n ≤ 2 * MAX_FAN_COST) c.fans_cost-cost.ensures.value c.fans_cost-cost.ensures.bound in
     let all : c.len-s-end.result ≡ section_count net.tree = c.len-s-end.ensures.value ∙ ap (λ (t : Tree). section_count t) c.tree-tree.ensures.tree in
-    let fits = added-fits net d c.loop-s.s c.loop-s.cost c.tree-tree.ensures.network fan (omega arith) c.loop-s.invariant in
+    let fits = added-fits net d c.loop-s.s c.loop-s.cost c.tree-tree.ensures.network fans (omega arith) c.loop-s.invariant in
     let is : c.price_at-cost.result ≡ price_of (pair_of net d c.loop-s.s) = c.price_at-cost.ensures in
     omega arith
 
 pub loop-s-init : goal.loop-s-init
-loop-s-init c =
-    subst (λ (fan : NetFan). IsAdded c.args.net.now c.args.d.now 0 fan.cost) (sym c.fan-cost.ensures.value) (added-none c.args.net.now c.args.d.now)
+loop-s-init c = subst (IsAdded c.args.net.now c.args.d.now 0) (sym c.fans_cost-cost.ensures.value) (added-none c.args.net.now c.args.d.now)
 
 pub loop-s-preserved : goal.loop-s-preserved
 loop-s-preserved c =
@@ -32,8 +30,8 @@ pub returns : goal.returns
 returns c =
     let net = c.args.net.now in
     let d = c.args.d.now in
-    let fan = subst (λ (f : NetFan). IsFan f) c.fan-cost.ensures.value c.fan-cost.ensures.bounds in
+    let fans = subst (λ n. n ≤ 2 * MAX_FAN_COST) c.fans_cost-cost.ensures.value c.fans_cost-cost.ensures.bound in
     let all : c.len-s-end.result ≡ section_count net.tree = c.len-s-end.ensures.value ∙ ap (λ (t : Tree). section_count t) c.tree-tree.ensures.tree in
     let whole : c.loop-s.cost ≡ cost net d = added-all net d c.loop-s.s c.loop-s.cost (omega arith) c.loop-s.invariant in
-    let most = cost-le net d c.tree-tree.ensures.network fan in
+    let most = cost-le net d c.tree-tree.ensures.network fans in
     record { value = whole; bound = omega arith }

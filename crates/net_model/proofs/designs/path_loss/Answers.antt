@@ -1,4 +1,4 @@
-use Rattle.std.proofs.Common.{◌≡◌, ◌≤◌, ◌+◌, ℕ, Option, Some, ap, ◌∙◌, sym, subst, arith}
+use Rattle.std.proofs.Common.{◌≡◌, ◌+◌, ℕ, Option, Some, ap, ◌∙◌, sym, subst, arith}
 use Rattle.duct_definitions.specs.Tree.{Tree, neighbour}
 use Rattle.duct_definitions.specs.Designs.{path_loss, pair_of, loss_of}
 use Rattle.net_model.proofs.Bounds.{path_loss-le}

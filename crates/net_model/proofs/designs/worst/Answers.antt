@@ -1,6 +1,6 @@
-use Rattle.std.proofs.Common.{◌≡◌, ◌<◌, ◌≤◌, ◌+◌, ℕ, ap, ◌∙◌, sym, subst, arith, get_or}
+use Rattle.std.proofs.Common.{ℕ, ap, ◌∙◌, sym}
 use Rattle.duct_definitions.specs.Tree.{Tree, all_leaves}
-use Rattle.net_model.proofs.DesignSums.{IsGreatest, greatest-none, greatest-yes, greatest-no, greatest-all}
+use Rattle.net_model.proofs.DesignSums.{greatest-none, greatest-yes, greatest-no, greatest-all}
 use Rattle.net_model.proofs.designs.worst.Goals as goal
 use Rattle.net_model.proofs.designs.worst.Goals.{then-is_on, else-is_on}
 
