@@ -9,7 +9,7 @@ use Rattle.duct_units.proofs.CeilingLaws.{is_ceiling, ceiling_alone}
 use Rattle.friction_table.specs.declared.limits.TheConstants.{MAX_LENGTH, MAX_RATE, MAX_FRICTION_LOSS, MILLIMETRES_PER_METRE, MILLIPASCALS_PER_DECIPASCAL}
 use Rattle.friction_table.specs.declared.row.FlowRate.{FlowRate}
 use Rattle.friction_table.specs.declared.table.Fraction.{Fraction}
-use Rattle.friction_table.specs.Loss.{rate_at, IsLossOver, IsFrictionLoss, IsRateInBounds}
+use Rattle.friction_table.specs.Loss.{rate_at, IsLossOver, IsFrictionLoss, IsRateInBounds, Loses}
 use Rattle.friction_table.specs.Reading.{table_of}
 
 -- the table of a size is the one at its number
@@ -52,9 +52,8 @@ loss_alone rows flow length rate loss wide at n is = (
 )
 
 -- 400 mPa/m lose 40 dPa over 10,000 mm, and 41 over 10,001 mm
-pub worked_loss : (rows : List FlowRate) (flow loss : ℕ) → rate_at flow rows ≡ Some (record { num = 400; den = 1 })
-    → (IsFrictionLoss rows flow 10000 loss ↔ (loss ≡ 40)) × (IsFrictionLoss rows flow 10001 loss ↔ (loss ≡ 41))
-worked_loss rows flow loss at = (
-  loss_alone rows flow 10000 (record { num = 400; den = 1 }) loss (omega arith) at 40 refl,
-  loss_alone rows flow 10001 (record { num = 400; den = 1 }) loss (omega arith) at 41 refl,
+pub worked_loss : Loses 400 10000 40 × Loses 400 10001 41
+worked_loss = (
+  λ rows flow loss at. loss_alone rows flow 10000 (record { num = 400; den = 1 }) loss (omega arith) at 40 refl,
+  λ rows flow loss at. loss_alone rows flow 10001 (record { num = 400; den = 1 }) loss (omega arith) at 41 refl,
 )

@@ -4,7 +4,8 @@
 --   rate_at flow rows           the rate at the airflow as an exact fraction; none above the last row
 --   IsLossOver length rate      the least whole number of dPa that the length loses at the rate
 --   IsFrictionLoss              the same at the rate of an airflow
-use Rattle.std.specs.Prelude.{◌≡◌, ℕ, ◌+◌, ◌-◌, ◌*◌, ◌<◌, ◌≤◌, ◌==◌, slice_get, nat_le, List, [], ◌∷◌, Option, Some, None, find, pos, All, IsSomeAnd, if◌then◌else◌}
+--   Loses rate length dpa       at a whole rate a length loses this, and nothing else
+use Rattle.std.specs.Prelude.{◌≡◌, ◌↔◌, ℕ, ◌+◌, ◌-◌, ◌*◌, ◌<◌, ◌≤◌, ◌==◌, slice_get, nat_le, List, [], ◌∷◌, Option, Some, None, find, pos, All, IsSomeAnd, if◌then◌else◌}
 use Rattle.duct_units.specs.Ceiling.{IsCeiling}
 use Rattle.friction_table.specs.declared.limits.TheConstants.{MAX_FLOW, MAX_RATE, MILLIMETRES_PER_METRE, MILLIPASCALS_PER_DECIPASCAL}
 use Rattle.friction_table.specs.declared.row.FlowRate.{FlowRate}
@@ -63,8 +64,17 @@ IsAboveAll flow rows = All (λ row. row.flow < flow) rows
 -- the least whole number of dPa that the length in mm loses at the rate in mPa/m
 abbrev pub IsLossOver : ℕ → Fraction → ℕ → Type 0
 IsLossOver length rate loss =
-    IsCeiling (pos (length * rate.num)) (pos (MILLIMETRES_PER_METRE * MILLIPASCALS_PER_DECIPASCAL * rate.den)) (pos loss)
+    IsCeiling
+    (pos (length * rate.num))
+    (pos (MILLIMETRES_PER_METRE * MILLIPASCALS_PER_DECIPASCAL * rate.den))
+    (pos loss)
 
 -- the airflow has a rate, and this is the loss over the length in mm at it, dPa: rounded up once from the exact rate
 abbrev pub IsFrictionLoss : List FlowRate → ℕ → ℕ → ℕ → Type 0
 IsFrictionLoss rows flow length loss = IsSomeAnd (rate_at flow rows) (λ rate. IsLossOver length rate loss)
+
+-- wherever the rate is this whole number of mPa/m, the length in mm loses so many dPa, and no other whole number
+abbrev pub Loses : ℕ → ℕ → ℕ → Type 0
+Loses rate length dpa =
+    (rows : List FlowRate) (flow loss : ℕ) → rate_at flow rows ≡ Some (record { num = rate; den = 1 })
+    → IsFrictionLoss rows flow length loss ↔ (loss ≡ dpa)

@@ -1,7 +1,6 @@
 //! Laws of friction. Each is the contract of a call that has nothing to do.
-ghost use Rattle.std.specs.Prelude.{◌≡◌, ◌↔◌, ℕ, List, Some, length as count};
-ghost use Rattle.friction_table.specs.declared.row.FlowRate.{FlowRate};
-ghost use Rattle.friction_table.specs.Loss.{rate_at, IsFrictionLoss};
+ghost use Rattle.std.specs.Prelude.{◌≡◌, length as count};
+ghost use Rattle.friction_table.specs.Loss.{Loses};
 ghost use Rattle.friction_table.specs.Reading.{header};
 
 use crate::limits::{
@@ -23,8 +22,6 @@ pub fn limits_as_numbers()
 
 /// At a rate of 400 mPa/m, 10,000 mm lose 40 dPa, and 10,001 mm lose 41, since 40.004 is rounded up.
 pub fn a_worked_loss()
-    ensures exact { (rows : List FlowRate) (flow loss : ℕ) → rate_at flow rows ≡ Some (record { num = 400; den = 1 })
-        → (IsFrictionLoss rows flow 10_000 loss ↔ loss ≡ 40) }
-    ensures rounded_up { (rows : List FlowRate) (flow loss : ℕ) → rate_at flow rows ≡ Some (record { num = 400; den = 1 })
-        → (IsFrictionLoss rows flow 10_001 loss ↔ loss ≡ 41) }
+    ensures exact { Loses 400 10_000 40 }
+    ensures rounded_up { Loses 400 10_001 41 }
 {}
