@@ -8,7 +8,7 @@ use Rattle.csv.specs.declared.reader.Reader.{Reader}
 use Rattle.csv.specs.declared.parser.State.{State}
 use Rattle.csv.proofs.ReadFacts.{rows-more, rows-end}
 use Rattle.file_definitions.specs.Rows.{Row, has_field, has_fields}
-use Rattle.csv_fields.specs.RowsHeld.{records_left, left_of, IsPlain, IsReading}
+use Rattle.csv_fields.specs.ReaderRows.{records_left, left_of, IsPlain, IsReading}
 use Rattle.csv_fields.proofs.RecordLaws.{records-next, records-end}
 
 pub field_at-slice_get : (fields : Row) (i : ℕ) → field_at fields i ≡ slice_get fields i
@@ -81,6 +81,10 @@ left_of-end old new fields sound config read =
     ap (records_left old.state) known ∙ records-end default_config old.state bytes (rows-end slice_rest old new fields default_config bytes config known read)
 
 -- ---- what the call answers
+
+-- before the last row was read, the rows that are left are the reader's
+pub still_left : (ended : Bool) (rows : List Row) → ended ≡ false → cond ended [] rows ≡ rows
+still_left ended rows none = ap (λ (b : Bool). cond b [] rows) none
 
 -- it found a row
 pub row_found : (old new : Reader (Bor (List ℕ))) (fields : Row) (found : Bool) → found ≡ true → IsReading old → (has_failed old ≡ true → found ≡ false)

@@ -1,2 +1,2 @@
 pub mod RowsLeft
-pub mod RowsHeld
+pub mod ReaderRows

@@ -3,12 +3,15 @@ ghost use Rattle.std.specs.Prelude.{◌≡◌, ◌≤◌, ◌<◌, ◌≤ℤ◌,
 ghost use Rattle.duct_units.specs.Name.{is_name};
 ghost use Rattle.duct_units.specs.Rules.{Gives, row_fault};
 ghost use Rattle.file_definitions.specs.Rows.{rows_of, has_field, has_fields, name_field, number_field, integer_field};
-ghost use Rattle.csv_fields.specs.RowsLeft.{Advances, opened};
+ghost use Rattle.csv_fields.specs.RowsLeft.{Advances, HasEnded, opened};
 
 use csv::{ByteRecord, Reader, ReaderBuilder};
-use duct_units::{Fault, Name, NoMemory, Part, ReadError, Reason, whole};
+use duct_units::{Fault, Name, NoMemory, ReadError, Reason, whole};
 use std::alloc::Global;
 use std::marker::Model;
+
+/// The number of the header.
+const HEADER_ROW: u32 = 1;
 
 /// The rows of a file: the one at hand, its number from 1, and those that are left.
 #[derive(Drop)]
@@ -16,6 +19,8 @@ pub struct Rows<'b> {
     reader: Reader<&'b [u8]>,
     row: ByteRecord,
     number: u32,
+    // The last row was read, or memory ran out.
+    ended: bool,
 }
 
 impl<'b> Model for Rows<'b> {
@@ -23,7 +28,7 @@ impl<'b> Model for Rows<'b> {
 
     ghost Value = { RowsLeft };
 
-    ghost use Rattle.csv_fields.specs.RowsHeld.{rows_left, IsReading};
+    ghost use Rattle.csv_fields.specs.ReaderRows.{rows_left, IsReading};
 
     ghost view = { rows_left };
 
@@ -33,7 +38,7 @@ impl<'b> Model for Rows<'b> {
 impl<'b> Rows<'b> {
     /// The rows of the bytes, with the header at hand. Another first row is refused, and so is a file without rows.
     ///
-    /// A byte order mark at the front of the bytes is passed over, and a blank line is no row.
+    /// A byte order mark before the first row is skipped, and an empty line is no row.
     pub fn open(alloc: Global, bytes: &'b [u8], header: &[&str]) -> Result<Rows<'b>, ReadError>
         ensures { Gives result (opened (map (λ field. field.now) header.now) (rows_of bytes.now)) }
     {
@@ -41,7 +46,7 @@ impl<'b> Rows<'b> {
         if rows.advance()? && rows.has_fields(header) {
             Ok(rows)
         } else {
-            Err(header_fault().into())
+            Err(Fault::of_row(HEADER_ROW, Reason::Header).into())
         }
     }
 
@@ -58,21 +63,30 @@ impl<'b> Rows<'b> {
             reader,
             row: ByteRecord::new(alloc),
             number: 0,
+            ended: false,
         }
     }
 
-    /// Goes on to the next row, and says whether there is one. After want of memory no row is left.
+    /// Goes on to the next row, and says whether there is one. After memory ran out no row is left.
     pub fn advance(&mut self) -> Result<bool, NoMemory>
         requires { self.old.number < u32.MAX }
         ensures row { IfOk result (Advances self.old self.new) }
-        ensures err { OnErr result (self.new.left ≡ []) }
+        ensures err { OnErr result (HasEnded self.old self.new) }
     {
+        if self.ended {
+            return Ok(false);
+        }
         let found = match self.reader.read_byte_record(&mut self.row) {
             Ok(found) => found,
-            Err(_) => return Err(NoMemory),
+            Err(_) => {
+                self.ended = true;
+                return Err(NoMemory);
+            }
         };
         if found {
             self.number += 1;
+        } else {
+            self.ended = true;
         }
         Ok(found)
     }
@@ -123,11 +137,7 @@ impl<'b> Rows<'b> {
     pub fn fault(&self, reason: Reason) -> Fault
         ensures { result ≡ row_fault self.now.number reason }
     {
-        Fault {
-            part: Part::Row,
-            place: self.number,
-            reason,
-        }
+        Fault::of_row(self.number, reason)
     }
 
     fn has_fields(&self, fields: &[&str]) -> bool
@@ -151,15 +161,5 @@ impl<'b> Rows<'b> {
             Some(field) => field == bytes.as_bytes(),
             None => false,
         }
-    }
-}
-
-fn header_fault() -> Fault
-    ensures { result ≡ row_fault 1 Reason.Header }
-{
-    Fault {
-        part: Part::Row,
-        place: 1,
-        reason: Reason::Header,
     }
 }

@@ -8,5 +8,6 @@ abbrev pub each_after : {A : Type 0} → (List A → A → List Rule) → List A
 each_after rules before [] = []
 each_after rules before (x ∷ xs) = rules before x ++ each_after rules (before ++ x ∷ []) xs
 
+-- the rules of all elements, in order
 abbrev pub each : {A : Type 0} → (List A → A → List Rule) → List A → List Rule
 each rules xs = each_after rules [] xs

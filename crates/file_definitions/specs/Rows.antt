@@ -1,5 +1,5 @@
 -- The rows of a CSV file, and the rules over them.
---   rows_of bytes          the records of the bytes, a byte order mark at the front passed over
+--   rows_of bytes          the records of the bytes; a byte order mark before them is skipped
 --   name_field row i       the field at place i, from 0, where it is a name
 --   number_field row i ..  the number that the field at place i spells, where it lies within its bounds
 --   RowForm S A            what a kind of file asks of its rows: A is what one row says, and S what rows together say
@@ -23,12 +23,13 @@ use Rattle.duct_units.specs.declared.fault.ReadError.TheVariants.{Refused, NoMem
 abbrev pub Row : Type 0
 Row = List (List ℕ)
 
--- a blank line is no row
+-- the records of the bytes; an empty line is no row
 abbrev pub rows_of : List ℕ → List Row
 rows_of bytes = records default_config (strip_bom bytes)
 
 -- ---- fields
 
+-- the field at place i, from 0, where it is a name
 abbrev pub name_field : Row → ℕ → Option (List ℕ)
 name_field row i = option_and_then name_of (slice_get row i)
 

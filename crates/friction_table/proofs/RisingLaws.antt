@@ -1,17 +1,12 @@
 -- Rows of rising airflow.
-use Rattle.std.proofs.Common.{◌≡◌, ℕ, zero, suc, ◌-◌, ◌<◌, ◌≤◌, inl, inr, List, [], ◌∷◌, ◌++◌, length, Bool, true, false, Some, slice_get, refl, sym, ap, ◌∙◌, subst, arith}
+use Rattle.std.proofs.Common.{◌≡◌, ℕ, zero, suc, ◌-◌, ◌<◌, inl, inr, List, [], ◌∷◌, ◌++◌, length, Bool, true, false, Some, slice_get, refl, sym, ap, ◌∙◌, subst, arith}
 use Rattle.std.specs.Prelude.{nat_lt, nat_le, ◌&&◌, get_or}
 use Rattle.std.specs.List.Sorted.{IsNonDecreasingBy}
 use Rattle.std.proofs.Math.Nat.{eq-or-lt_of_le}
 use Rattle.std.proofs.lemmas.Bool.{ltb-true, leb-true}
 use Rattle.std.proofs.lemmas.Option.{slice_get-get_or}
 use Rattle.friction_table.specs.declared.row.FlowRate.{FlowRate}
-use Rattle.friction_table.specs.Rates.{AreRising, last_of, may_follow}
-
--- one row stands above another
-pub record Rises (lower upper : FlowRate) : Type 0 where
-  pub flow : lower.flow < upper.flow
-  pub rate : lower.rate ≤ upper.rate
+use Rattle.friction_table.specs.Rates.{AreRising, Rises, RisesThroughout, IsTable, last_of, may_follow}
 
 pub AreRising-tail : (row : FlowRate) (rows : List FlowRate) → AreRising (row ∷ rows) → AreRising rows
 AreRising-tail row [] rising = tt
@@ -38,7 +33,11 @@ rises_later (row ∷ rows) (suc i) zero lower upper rising at above less = absur
 rises_later (row ∷ rows) (suc i) (suc k) lower upper rising at above less =
     rises_later rows i k lower upper (AreRising-tail row rows rising) at above (omega arith)
 
--- so the airflows never fall
+-- so any two rows of a table are in order
+pub rises_throughout : (rows : List FlowRate) → IsTable rows → RisesThroughout rows
+rises_throughout rows is = λ i k lower upper less at above. rises_later rows i k lower upper is.rising at above less
+
+-- and the airflows never fall
 pub flows_rise : (rows : List FlowRate) → AreRising rows → IsNonDecreasingBy (λ row. row.flow) rows
 flows_rise rows rising i j d order inside =
     elim (eq-or-lt_of_le order) [

@@ -1,6 +1,6 @@
 -- Tables with one more row.
 use Rattle.std.proofs.Common.{◌≡◌, ℕ, ◌+◌, ◌<◌, ◌≤◌, List, [], ◌∷◌, ◌++◌, length, IsTrue, arith, length-append}
-use Rattle.std.proofs.Common.{Bool, true, false, cond, not, refl, sym, ap, ◌∙◌, ◌*◌, Option, Some, option_map, All, sum_by, replicate}
+use Rattle.std.proofs.Common.{Bool, true, false, cond, not, refl, sym, ap, ◌∙◌, ◌*◌, Option, Some, None, option_map, All, sum_by, replicate}
 use Rattle.std.specs.Prelude.{nat_lt, ◌==◌}
 use Rattle.std.specs.List.{position_from}
 use Rattle.std.proofs.lemmas.Bool.Decides.{nat_tests}
@@ -8,9 +8,11 @@ use Rattle.std.proofs.lemmas.List.Sums.{sum_by-le}
 use Rattle.std.proofs.lemmas.List.Folds.{sum_by-replicate}
 use Rattle.duct_units.specs.Rules.{first_broken, size_fault}
 use Rattle.duct_units.specs.declared.fault.Fault.{Fault}
+use Rattle.duct_units.proofs.RuleLaws.{rule_holds}
+use Rattle.std.proofs.lemmas.Bool.{ltb-true}
 use Rattle.duct_units.specs.declared.fault.Reason.TheVariants.{Missing}
 use Rattle.friction_table.specs.Reading.{row_of_each}
-use Rattle.std.proofs.lemmas.List.Elements.{All-push}
+use Rattle.std.proofs.lemmas.List.Elements.{All-push, All-nil, All-cons}
 use Rattle.friction_table.specs.declared.row.FlowRate.{FlowRate}
 use Rattle.friction_table.specs.declared.limits.TheConstants.{MAX_ROWS}
 use Rattle.friction_table.specs.Rates.{IsTable, IsRate, may_follow}
@@ -55,6 +57,13 @@ row_of_each-position i n (rows ∷ tables) e =
         → cond (not b) broken (Some (size_fault n Missing)) ≡ option_map (λ size. size_fault (size + 1) Missing) (cond b (Some i) found)
     chosen true i n broken found e later = ap (λ (k : ℕ). Some (size_fault k Missing)) e
     chosen false i n broken found e later = later
+
+-- where no rule is broken, each table has a row
+pub each_has_a_row : (n : ℕ) (tables : List (List FlowRate)) → first_broken (row_of_each n tables) ≡ None → All (λ rows. 0 < length rows) tables
+each_has_a_row n [] none = All-nil (λ (rows : List FlowRate). 0 < length rows)
+each_has_a_row n (rows ∷ tables) none =
+    let (has, later) = rule_holds (nat_lt 0 (length rows)) (first_broken (row_of_each (n + 1) tables)) (size_fault n Missing) none in
+    All-cons (λ (rs : List FlowRate). 0 < length rs) rows tables (ltb-true 0 (length rows) has) (each_has_a_row (n + 1) tables later)
 
 -- the same of the place of a table that was looked for
 pub missing_is : (tables held : List (List FlowRate)) (found : Option ℕ) → found ≡ position_from (λ rows. length rows == 0) 0 tables → tables ≡ held

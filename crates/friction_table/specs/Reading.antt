@@ -2,7 +2,7 @@
 use Rattle.std.specs.Prelude.{◌≡◌, ◌≤◌, All, sum_by, ℕ, ◌+◌, nat_lt, false, List, [], ◌∷◌, ◌++◌, length, replicate, codes, Option, Some, None, slice_get, slice_set, unwrap_or, Result}
 use Rattle.duct_units.specs.declared.fault.Fault.{Fault}
 use Rattle.duct_units.specs.declared.fault.Reason.TheVariants.{UnknownSize, TooMany, Order, Missing}
-use Rattle.duct_units.specs.Rules.{Rule, at_row, at_size, size_fault}
+use Rattle.duct_units.specs.Rules.{Rule, at_row, at_size}
 use Rattle.file_definitions.specs.Rows.{Row, RowForm, rows_of, reading}
 use Rattle.name_index.specs.Places.{place_of}
 use Rattle.size_catalogue.specs.Catalogue.{Catalogue, names_of}
@@ -12,6 +12,7 @@ use Rattle.friction_table.specs.declared.row.FrictionRow.{FrictionRow}
 use Rattle.friction_table.specs.FrictionRow.{row_of_fields}
 use Rattle.friction_table.specs.Rates.{may_follow}
 
+-- the first row of a friction file
 abbrev pub header : Row
 header = codes "size" ∷ codes "flow" ∷ codes "rate" ∷ []
 
@@ -19,6 +20,7 @@ header = codes "size" ∷ codes "flow" ∷ codes "rate" ∷ []
 abbrev pub table_of : List (List FlowRate) → ℕ → List FlowRate
 table_of tables size = unwrap_or (slice_get tables size) []
 
+-- the number of the size that the row names; none where no size has the name
 abbrev pub size_number : Catalogue → FrictionRow → Option ℕ
 size_number sizes row = place_of row.size (names_of sizes.sizes)
 
@@ -40,6 +42,7 @@ abbrev pub row_of_each : ℕ → List (List FlowRate) → List Rule
 row_of_each n [] = []
 row_of_each n (rows ∷ tables) = at_size n (nat_lt 0 (length rows)) Missing ∷ row_of_each (n + 1) tables
 
+-- what a friction file asks of its rows, for the sizes of a catalogue
 abbrev pub friction_form : Catalogue → RowForm (List (List FlowRate)) FrictionRow
 friction_form sizes = record {
   header = header;
@@ -49,10 +52,6 @@ friction_form sizes = record {
   own = λ n before row. rules_of_size n before row (size_number sizes row);
   last = row_of_each 1;
 }
-
--- the fault of a size without a row; places count from 1
-abbrev pub missing_fault : ℕ → Fault
-missing_fault size = size_fault (size + 1) Missing
 
 -- the tables of a file's bytes, one for each size, or the refusal
 abbrev pub friction_of : Catalogue → List ℕ → Result (List (List FlowRate)) Fault

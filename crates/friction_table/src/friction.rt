@@ -1,24 +1,24 @@
 //! The friction rates of all sizes.
-ghost use Rattle.std.specs.Prelude.{◌≡◌, ◌+◌, ◌^◌, ◌<◌, ◌≤◌, ◌==◌, ◌↔◌, [], replicate, option_map, IfSome, IsNone, IfOk};
+ghost use Rattle.std.specs.Prelude.{◌≡◌, ◌+◌, ◌^◌, ◌<◌, ◌≤◌, ◌==◌, ◌↔◌, [], replicate, IfSome, IsNone, IfOk};
 ghost use Rattle.std.specs.Prelude.{length as count};
 ghost use Rattle.std.specs.List.{position_from};
 ghost use Rattle.duct_units.specs.Rules.{first_broken};
 ghost use Rattle.file_definitions.specs.Rows.{TakesRow, TakesItem};
-ghost use Rattle.friction_table.specs.Rates.{IsRate};
-ghost use Rattle.friction_table.specs.Loss.{IsAboveAll, IsFrictionLoss};
-ghost use Rattle.friction_table.specs.Reading.{friction_form, missing_fault, row_of_each, table_of, AddsRow};
+ghost use Rattle.friction_table.specs.Rates.{IsRate, IsTable, RisesThroughout};
+ghost use Rattle.friction_table.specs.Loss.{IsAboveAll, IsFrictionLoss, IsLossOver, IsRateInBounds};
+ghost use Rattle.friction_table.specs.Reading.{friction_form, row_of_each, table_of, AddsRow};
 
-use crate::limits::{MAX_FLOW, MAX_LENGTH, MILLIMETRES_PER_METRE, MILLIPASCALS_PER_DECIPASCAL};
-use crate::row::{FrictionRow, friction_row};
-use crate::table::RateTable;
+use crate::limits::{
+    COLUMNS, MAX_FLOW, MAX_FRICTION_LOSS, MAX_LENGTH, MILLIMETRES_PER_METRE,
+    MILLIPASCALS_PER_DECIPASCAL, MIN_FLOW,
+};
+use crate::row::{FlowRate, FrictionRow, friction_row};
+use crate::table::{Fraction, RateTable};
 use csv_fields::Rows;
-use duct_units::{NoMemory, ReadError, Reason};
+use duct_units::{Fault, NoMemory, ReadError, Reason};
 use size_catalogue::Sizes;
 use std::alloc::Global;
 use std::marker::Model;
-
-/// The number of fields of a row.
-const COLUMNS: usize = 3;
 
 /// The friction rates of a catalogue's sizes, one table for each, by the size's number.
 #[derive(Drop)]
@@ -50,27 +50,38 @@ impl Friction {
         Ok(Friction { tables })
     }
 
-    /// What a length in mm of a size loses at the airflow q, dPa.
-    pub fn loss(&self, size: u32, q: u64, length: u64) -> Option<u64>
-        requires size { size < count self.now }
-        requires flow { (1 ≤ q) × (q ≤ MAX_FLOW) }
-        requires length { length ≤ MAX_LENGTH }
-        ensures none { IsNone result ↔ IsAboveAll q (table_of self.now size) }
-        ensures loss { IfSome result (IsFrictionLoss (table_of self.now size) q length) }
+    /// The rates of a size. A later one has a higher airflow, and no lower rate.
+    #[tactic(auto, using(crate::proofs::RisingLaws::rises_throughout))]
+    pub fn rates(&self, size: u32) -> &[FlowRate]
+        requires { size < count self.now }
+        ensures value { result.now ≡ table_of self.now size }
+        ensures order { RisesThroughout result.now }
+        ensures bounds { IsTable result.now }
     {
-        let rate = self.tables[size as usize].rate_at(q)?;
-        let unit = MILLIMETRES_PER_METRE * MILLIPASCALS_PER_DECIPASCAL * rate.den;
-        Some((length * rate.num).div_ceil(unit))
+        self.tables[size as usize].rows()
     }
 
-    /// The number of the first size without a row.
-    pub(crate) fn missing(&self) -> Option<u32>
-        requires { count self.now < 2 ^ 32 }
-        ensures value { first_broken (row_of_each 1 self.now) ≡ option_map missing_fault result }
-        ensures within { IfSome result (λ size. size < count self.now) }
+    /// What a length in mm of a size loses at the airflow, dPa.
+    pub fn loss(&self, size: u32, flow: u64, length: u64) -> Option<u64>
+        requires size { size < count self.now }
+        requires flow { (MIN_FLOW ≤ flow) × (flow ≤ MAX_FLOW) }
+        requires length { length ≤ MAX_LENGTH }
+        ensures none { IsNone result ↔ IsAboveAll flow (table_of self.now size) }
+        ensures loss { IfSome result (IsFrictionLoss (table_of self.now size) flow length) }
+        ensures most { IfSome result (λ loss. loss ≤ MAX_FRICTION_LOSS) }
+    {
+        let rate = self.tables[size as usize].rate_at(flow)?;
+        Some(loss_over(length, rate))
+    }
+
+    /// The fault of the first size without a row.
+    pub(crate) fn missing(&self) -> Option<Fault>
+        requires { count self.now < u32.MAX }
+        ensures { result ≡ first_broken (row_of_each 1 self.now) }
     {
         let size = first_empty(&self.tables)?;
-        Some(size as u32)
+        // Sizes count from 0, and places from 1.
+        Some(Fault::of_size(size as u32 + 1, Reason::Missing))
     }
 
     /// The friction with what the row at hand says, or the row's first refusal.
@@ -120,4 +131,15 @@ fn first_empty(tables: &[RateTable]) -> Option<usize>
     ensures within { IfSome result (λ size. size < count tables.now) }
 {
     tables.iter().position(|table| table.is_empty())
+}
+
+// What a length in mm loses at the rate, dPa.
+fn loss_over(length: u64, rate: Fraction) -> u64
+    requires length { length ≤ MAX_LENGTH }
+    requires rate { IsRateInBounds rate }
+    ensures value { IsLossOver length rate result }
+    ensures most { result ≤ MAX_FRICTION_LOSS }
+{
+    let unit = MILLIMETRES_PER_METRE * MILLIPASCALS_PER_DECIPASCAL * rate.den;
+    (length * rate.num).div_ceil(unit)
 }

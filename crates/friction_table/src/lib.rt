@@ -5,11 +5,18 @@
 #![tactic(auto)]
 
 mod friction;
+mod laws;
 mod limits;
 mod reading;
 mod row;
 mod table;
 
 pub use friction::Friction;
-pub use limits::{MAX_FLOW, MAX_LENGTH, MAX_ROWS};
+pub use laws::{a_worked_loss, limits_as_numbers};
+pub use limits::{
+    COLUMNS, MAX_FLOW, MAX_FRICTION_LOSS, MAX_LENGTH, MAX_RATE, MAX_ROWS, MILLIMETRES_PER_METRE,
+    MILLIPASCALS_PER_DECIPASCAL, MIN_FLOW,
+};
 pub use reading::read_friction;
+pub use row::{FlowRate, FrictionRow};
+pub use table::Fraction;

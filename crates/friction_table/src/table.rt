@@ -10,7 +10,7 @@ use duct_units::NoMemory;
 use std::alloc::Global;
 use std::marker::Model;
 
-/// A rate as an exact fraction, mPa/m.
+/// A rate as an exact fraction `num / den`, mPa/m.
 #[derive(Clone, Copy)]
 pub struct Fraction {
     pub num: u64,
@@ -45,6 +45,7 @@ impl RateTable {
         }
     }
 
+    /// Whether there is no row.
     pub fn is_empty(&self) -> bool
         ensures { result ≡ (count self.now == 0) }
     {
@@ -66,6 +67,14 @@ impl RateTable {
             Some(last) => last.flow < row.flow && last.rate <= row.rate,
             None => true,
         }
+    }
+
+    /// The rows.
+    pub fn rows(&self) -> &[FlowRate]
+        ensures value { result.now ≡ self.now }
+        ensures table { IsTable result.now }
+    {
+        &self.rows
     }
 
     /// Adds a row at the end.

@@ -4,7 +4,7 @@ use Rattle.std.specs.Str.{bytes_eq}
 use Rattle.std.specs.HashMap.{HashMap, get, Updates}
 use Rattle.std.proofs.lemmas.Slice.Eq.{bytes_eq-Decides}
 use Rattle.name_index.specs.Places.{place_of}
-use Rattle.name_index.specs.Held.{HoldsPlaces}
+use Rattle.name_index.specs.PlaceMap.{IsPlaceMap}
 
 -- one further on
 later_within : (o : Option ℕ) (n m : ℕ) → n < m → IfSome o (λ p. p < n) → IfSome (option_map (λ p. p + 1) o) (λ p. p < m)
@@ -57,9 +57,9 @@ held_at last name names before false same at absent = at ∙ apart (place_of nam
     apart (Some p) = refl
     apart None = refl
 
-pub held_more : {S : Type 0} (last : List ℕ) (names more : List (List ℕ)) (places grown : HashMap (List ℕ) ℕ S) (n : ℕ)
-    → HoldsPlaces names places → place_of last names ≡ None → Updates bytes_eq places grown last (Some n) → n ≡ length names → more ≡ names ++ last ∷ [] → HoldsPlaces more grown
-held_more last names more places grown n held absent updates count is = λ name.
+pub is_place_map-push : {S : Type 0} (last : List ℕ) (names more : List (List ℕ)) (places grown : HashMap (List ℕ) ℕ S) (n : ℕ)
+    → IsPlaceMap names places → place_of last names ≡ None → Updates bytes_eq places grown last (Some n) → n ≡ length names → more ≡ names ++ last ∷ [] → IsPlaceMap more grown
+is_place_map-push last names more places grown n held absent updates count is = λ name.
     updates.0 name
     ∙ ap (λ k. cond (bytes_eq last name) (Some k) (get bytes_eq places name)) count
     ∙ held_at last name names (get bytes_eq places name) (bytes_eq last name) refl (held name) absent

@@ -16,13 +16,13 @@ pub struct NameIndex {
 
 impl Model for NameIndex {
     ghost use Rattle.std.specs.Prelude.{ℕ, List as Sequence};
-    ghost use Rattle.name_index.specs.Held.{HoldsPlaces};
+    ghost use Rattle.name_index.specs.PlaceMap.{IsPlaceMap};
 
     ghost Value = { Sequence (Sequence ℕ) };
 
     ghost view = { λ index. index.names.items };
 
-    ghost invariant = { λ index. HoldsPlaces index.names.items index.places };
+    ghost invariant = { λ index. IsPlaceMap index.names.items index.places };
 }
 
 impl NameIndex {

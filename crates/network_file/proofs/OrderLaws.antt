@@ -1,51 +1,125 @@
--- Where the reading of a network file stops.
-use Rattle.std.proofs.Common.{◌≡◌, List, ◌++◌, None}
+-- Where the reading of a network file stops, and what it read until there.
+use Rattle.std.proofs.Common.{◌≡◌, ℕ, List, ◌++◌, map, None, Ok, [], refl, ap, ◌∙◌}
 use Rattle.toml.specs.Data.{Members}
 use Rattle.duct_units.specs.declared.fault.ReadError.{ReadError}
-use Rattle.duct_units.specs.Rules.{Rule, first_broken}
-use Rattle.network_file.specs.TopTable.{top_rules, fan_tables, section_tables}
-use Rattle.network_file.specs.FanTables.{fans_rules}
-use Rattle.network_file.specs.SectionTables.{sections_rules}
-use Rattle.network_file.specs.Neighbours.{trees_rules}
-use Rattle.network_file.specs.Pairs.{losses_rules}
-use Rattle.network_file.specs.NetworkFile.{network_rules, entries}
-use Rattle.network_file.proofs.SequenceLaws.{Stops, stops_first, stops_later, all_hold}
+use Rattle.duct_units.specs.Rules.{Rule, first_broken, unless_refused}
+use Rattle.duct_definitions.specs.declared.design.NetFan.{NetFan}
+use Rattle.duct_definitions.specs.Network.{Network}
+use Rattle.duct_definitions.specs.Tree.{Tree}
+use Rattle.network_file.specs.TopTable.{TopEntry, top_rules, top_in, fan_tables, section_tables}
+use Rattle.network_file.specs.FanTables.{all_fan_rules, fan_of}
+use Rattle.network_file.specs.SectionTables.{SectionEntry, all_section_rules, entry_of}
+use Rattle.network_file.specs.Neighbours.{neighbour_and_tree_rules, tree_of, entry_names}
+use Rattle.network_file.specs.Pairs.{all_size_and_pair_rules, all_sizes_and_pairs}
+use Rattle.network_file.specs.NetworkFile.{network_rules, network_in, entries}
+use Rattle.network_file.specs.declared.sizes_and_pairs.AllSizesAndPairs.{AllSizesAndPairs}
+use Rattle.network_file.proofs.SequenceLaws.{Stops, stops_first, stops_later, all_hold, given, IsRead, read_as}
 
+-- the rules that come after the sections, the fans and the top table
 abbrev pub after_sections : Members → List Rule
-after_sections doc = trees_rules (entries doc) ++ losses_rules (entries doc)
+after_sections doc = neighbour_and_tree_rules (entries doc) ++ all_size_and_pair_rules (entries doc)
 
 abbrev pub after_fans : Members → List Rule
-after_fans doc = sections_rules (section_tables doc) ++ after_sections doc
+after_fans doc = all_section_rules (section_tables doc) ++ after_sections doc
 
 abbrev pub after_top : Members → List Rule
-after_top doc = fans_rules (fan_tables doc) ++ after_fans doc
+after_top doc = all_fan_rules (fan_tables doc) ++ after_fans doc
+
+-- ---- what was read
+
+-- the top table and the fans
+pub record FansRead (doc : Members) (top : TopEntry) (fans : List NetFan) : Type 0 where
+  pub of_top : IsRead (top_rules doc) (top_in doc) top
+  pub of_fans : IsRead (all_fan_rules (fan_tables doc)) (map fan_of (fan_tables doc)) fans
+
+pub fans_read : (doc : Members) (top : TopEntry) (fans : List NetFan) → unless_refused (first_broken (top_rules doc)) (top_in doc) ≡ Ok top
+    → unless_refused (first_broken (all_fan_rules top.fans)) (map fan_of top.fans) ≡ Ok fans → FansRead doc top fans
+fans_read doc top fans is_top are_fans =
+    let first = given (first_broken (top_rules doc)) (top_in doc) top is_top in
+    record { of_top = first; of_fans = read_as all_fan_rules (map fan_of) top.fans (fan_tables doc) fans (ap (λ (t : TopEntry). t.fans) first.1) are_fans }
+
+-- and the sections
+pub record SectionsRead (doc : Members) (top : TopEntry) (fans : List NetFan) (sections : List SectionEntry) : Type 0 where
+  pub before : FansRead doc top fans
+  pub of_sections : IsRead (all_section_rules (section_tables doc)) (entries doc) sections
+
+pub sections_read : (doc : Members) (top : TopEntry) (fans : List NetFan) (sections : List SectionEntry) → unless_refused (first_broken (top_rules doc)) (top_in doc) ≡ Ok top
+    → unless_refused (first_broken (all_fan_rules top.fans)) (map fan_of top.fans) ≡ Ok fans → unless_refused (first_broken (all_section_rules top.sections)) (map entry_of top.sections) ≡ Ok sections
+    → SectionsRead doc top fans sections
+sections_read doc top fans sections is_top are_fans are_sections =
+    let before = fans_read doc top fans is_top are_fans in
+    record { before = before; of_sections = read_as all_section_rules (map entry_of) top.sections (section_tables doc) sections (ap (λ (t : TopEntry). t.sections) before.of_top.1) are_sections }
+
+-- and the tree
+pub record TreeRead (doc : Members) (top : TopEntry) (fans : List NetFan) (sections : List SectionEntry) (tree : Tree) : Type 0 where
+  pub before : SectionsRead doc top fans sections
+  pub of_tree : IsRead (neighbour_and_tree_rules (entries doc)) (tree_of (entries doc)) tree
+
+pub tree_read : (doc : Members) (top : TopEntry) (fans : List NetFan) (sections : List SectionEntry) (tree : Tree) → unless_refused (first_broken (top_rules doc)) (top_in doc) ≡ Ok top
+    → unless_refused (first_broken (all_fan_rules top.fans)) (map fan_of top.fans) ≡ Ok fans → unless_refused (first_broken (all_section_rules top.sections)) (map entry_of top.sections) ≡ Ok sections
+    → unless_refused (first_broken (neighbour_and_tree_rules sections)) (tree_of sections) ≡ Ok tree → TreeRead doc top fans sections tree
+tree_read doc top fans sections tree is_top are_fans are_sections is_tree =
+    let before = sections_read doc top fans sections is_top are_fans are_sections in
+    record { before = before; of_tree = read_as neighbour_and_tree_rules tree_of sections (entries doc) tree before.of_sections.1 is_tree }
+
+-- ---- where it stops
 
 pub at_top : (error : ReadError) (doc : Members) → Stops error (top_rules doc) → Stops error (network_rules doc)
 at_top error doc stops = stops_first error (top_rules doc) (after_top doc) stops
 
-pub at_fans : (error : ReadError) (doc : Members) → first_broken (top_rules doc) ≡ None → Stops error (fans_rules (fan_tables doc)) → Stops error (network_rules doc)
-at_fans error doc top stops = stops_later error (top_rules doc) (after_top doc) top (stops_first error (fans_rules (fan_tables doc)) (after_fans doc) stops)
+past_top : (error : ReadError) (doc : Members) → first_broken (top_rules doc) ≡ None → Stops error (after_top doc) → Stops error (network_rules doc)
+past_top error doc top stops = stops_later error (top_rules doc) (after_top doc) top stops
 
-pub at_sections : (error : ReadError) (doc : Members) → first_broken (top_rules doc) ≡ None → first_broken (fans_rules (fan_tables doc)) ≡ None → Stops error (sections_rules (section_tables doc))
+pub at_fans : (error : ReadError) (doc : Members) → first_broken (top_rules doc) ≡ None → Stops error (all_fan_rules (fan_tables doc)) → Stops error (network_rules doc)
+at_fans error doc top stops = past_top error doc top (stops_first error (all_fan_rules (fan_tables doc)) (after_fans doc) stops)
+
+past_fans : (error : ReadError) (doc : Members) (top : TopEntry) (fans : List NetFan) → FansRead doc top fans → Stops error (after_fans doc) → Stops error (network_rules doc)
+past_fans error doc top fans read stops = past_top error doc read.of_top.0 (stops_later error (all_fan_rules (fan_tables doc)) (after_fans doc) read.of_fans.0 stops)
+
+pub at_sections : (error : ReadError) (doc : Members) (top : TopEntry) (fans : List NetFan) → FansRead doc top fans → Stops error (all_section_rules (section_tables doc)) → Stops error (network_rules doc)
+at_sections error doc top fans read stops = past_fans error doc top fans read (stops_first error (all_section_rules (section_tables doc)) (after_sections doc) stops)
+
+past_sections : (error : ReadError) (doc : Members) (top : TopEntry) (fans : List NetFan) (sections : List SectionEntry) → SectionsRead doc top fans sections → Stops error (after_sections doc)
     → Stops error (network_rules doc)
-at_sections error doc top fans stops =
-    stops_later error (top_rules doc) (after_top doc) top (stops_later error (fans_rules (fan_tables doc)) (after_fans doc) fans
-    (stops_first error (sections_rules (section_tables doc)) (after_sections doc) stops))
+past_sections error doc top fans sections read stops =
+    past_fans error doc top fans read.before (stops_later error (all_section_rules (section_tables doc)) (after_sections doc) read.of_sections.0 stops)
 
-pub at_tree : (error : ReadError) (doc : Members) → first_broken (top_rules doc) ≡ None → first_broken (fans_rules (fan_tables doc)) ≡ None → first_broken (sections_rules (section_tables doc)) ≡ None
-    → Stops error (trees_rules (entries doc)) → Stops error (network_rules doc)
-at_tree error doc top fans sections stops =
-    stops_later error (top_rules doc) (after_top doc) top (stops_later error (fans_rules (fan_tables doc)) (after_fans doc) fans
-    (stops_later error (sections_rules (section_tables doc)) (after_sections doc) sections (stops_first error (trees_rules (entries doc)) (losses_rules (entries doc)) stops)))
+pub at_tree : (error : ReadError) (doc : Members) (top : TopEntry) (fans : List NetFan) (sections : List SectionEntry) → SectionsRead doc top fans sections
+    → Stops error (neighbour_and_tree_rules (entries doc)) → Stops error (network_rules doc)
+at_tree error doc top fans sections read stops =
+    past_sections error doc top fans sections read (stops_first error (neighbour_and_tree_rules (entries doc)) (all_size_and_pair_rules (entries doc)) stops)
 
-pub at_losses : (error : ReadError) (doc : Members) → first_broken (top_rules doc) ≡ None → first_broken (fans_rules (fan_tables doc)) ≡ None → first_broken (sections_rules (section_tables doc)) ≡ None
-    → first_broken (trees_rules (entries doc)) ≡ None → Stops error (losses_rules (entries doc)) → Stops error (network_rules doc)
-at_losses error doc top fans sections tree stops =
-    stops_later error (top_rules doc) (after_top doc) top (stops_later error (fans_rules (fan_tables doc)) (after_fans doc) fans
-    (stops_later error (sections_rules (section_tables doc)) (after_sections doc) sections (stops_later error (trees_rules (entries doc)) (losses_rules (entries doc)) tree stops)))
+pub at_sizes_and_pairs : (error : ReadError) (doc : Members) (top : TopEntry) (fans : List NetFan) (sections : List SectionEntry) (tree : Tree) → TreeRead doc top fans sections tree
+    → Stops error (all_size_and_pair_rules (entries doc)) → Stops error (network_rules doc)
+at_sizes_and_pairs error doc top fans sections tree read stops =
+    past_sections error doc top fans sections read.before (stops_later error (neighbour_and_tree_rules (entries doc)) (all_size_and_pair_rules (entries doc)) read.of_tree.0 stops)
 
-pub none_broken : (doc : Members) → first_broken (top_rules doc) ≡ None → first_broken (fans_rules (fan_tables doc)) ≡ None → first_broken (sections_rules (section_tables doc)) ≡ None
-    → first_broken (trees_rules (entries doc)) ≡ None → first_broken (losses_rules (entries doc)) ≡ None → first_broken (network_rules doc) ≡ None
-none_broken doc top fans sections tree losses =
-    all_hold (top_rules doc) (after_top doc) top (all_hold (fans_rules (fan_tables doc)) (after_fans doc) fans
-    (all_hold (sections_rules (section_tables doc)) (after_sections doc) sections (all_hold (trees_rules (entries doc)) (losses_rules (entries doc)) tree losses)))
+-- ---- where it doesn't
+
+-- the network of what was read
+abbrev pub network_with : TopEntry → List NetFan → List (List ℕ) → Tree → AllSizesAndPairs → Network
+network_with top fans names tree lists = record {
+  name = top.name;
+  tree = tree;
+  names = names;
+  sizes = lists.sizes;
+  pairs = lists.pairs;
+  fans = fans;
+  return_fans = [];
+}
+
+-- no rule is broken, and it is the network that the document describes
+pub all_read : (doc : Members) (top : TopEntry) (fans : List NetFan) (sections again : List SectionEntry) (tree : Tree) (names : List (List ℕ)) (lists : AllSizesAndPairs) → TreeRead doc top fans sections tree
+    → names ≡ entry_names sections → again ≡ sections → unless_refused (first_broken (all_size_and_pair_rules again)) (all_sizes_and_pairs again) ≡ Ok lists
+    → (first_broken (network_rules doc) ≡ None) × (network_in doc ≡ network_with top fans names tree lists)
+all_read doc top fans sections again tree names lists read are_names are_same are_lists =
+    let last = read_as all_size_and_pair_rules all_sizes_and_pairs again (entries doc) lists (are_same ∙ read.before.of_sections.1) are_lists in
+    let from_top = read.before.before in (
+      all_hold (top_rules doc) (after_top doc) from_top.of_top.0 (all_hold (all_fan_rules (fan_tables doc)) (after_fans doc) from_top.of_fans.0
+          (all_hold (all_section_rules (section_tables doc)) (after_sections doc) read.before.of_sections.0 (all_hold (neighbour_and_tree_rules (entries doc)) (all_size_and_pair_rules (entries doc)) read.of_tree.0 last.0))),
+      same top fans names tree lists from_top.of_top.1 from_top.of_fans.1 (are_names ∙ ap entry_names read.before.of_sections.1) read.of_tree.1 last.1,
+    )
+  where
+    same : (t : TopEntry) (fs : List NetFan) (ns : List (List ℕ)) (tr : Tree) (ls : AllSizesAndPairs) → t ≡ top_in doc → fs ≡ map fan_of (fan_tables doc) → ns ≡ entry_names (entries doc)
+        → tr ≡ tree_of (entries doc) → ls ≡ all_sizes_and_pairs (entries doc) → network_in doc ≡ network_with t fs ns tr ls
+    same t fs ns tr ls is_top are_fans are_named is_tree are = rw (is_top, are_fans, are_named, is_tree, are) refl

@@ -1,7 +1,7 @@
 -- The cells of a section, as its pairs are read.
 use Rattle.std.proofs.Common.{◌≡◌, ◌≢◌, ℕ, suc, zero, ◌+◌, ◌*◌, ◌<◌, ◌≤◌, List, [], ◌∷◌, ◌++◌, length, take, map, set, get_or, Bool, true, false, ◌&&◌, ◌||◌, ◌==◌, not, cond, Option, Some, None, is_some, refl, ap, ◌∙◌, sym, subst, arith, replicate}
 use Rattle.std.specs.Prelude.{slice_get, if◌then◌else◌, All}
-use Rattle.std.specs.List.{list_any, filter_map, range_with_len, cons_option}
+use Rattle.std.specs.List.{list_any, range_with_len, cons_option}
 use Rattle.std.proofs.lemmas.List.FromFn.{length-map-range_with_len, get_or-map-range_with_len}
 use Rattle.std.proofs.lemmas.List.Elements.{filter_map-append, All-head, All-tail}
 use Rattle.std.proofs.lemmas.Bool.{eqb-true, eq-eqb}
@@ -18,11 +18,11 @@ use Rattle.network_file.specs.declared.pairs.PairRow.{PairRow}
 use Rattle.network_file.specs.Pairs.{row_of, rows_of, same_sizes, is_new, cell_of, pair_in, cells_of}
 
 -- one more pair of the form
-pub rows_of-next : (sizes : ℕ) (beside : Option ℕ) (pairs : List (List Data)) (i : ℕ) (pair : List Data) (row : PairRow) → slice_get pairs i ≡ Some pair → row_of sizes beside pair ≡ Some row
-    → rows_of sizes beside (take (i + 1) pairs) ≡ rows_of sizes beside (take i pairs) ++ row ∷ []
-rows_of-next sizes beside pairs i pair row at is =
-    ap (rows_of sizes beside) (take_at pairs i pair at) ∙ filter_map-append (row_of sizes beside) (take i pairs) (pair ∷ [])
-    ∙ ap (λ last. rows_of sizes beside (take i pairs) ++ cons_option last []) is
+pub rows_of-next : (sizes : ℕ) (neighbour_count : Option ℕ) (pairs : List (List Data)) (i : ℕ) (pair : List Data) (row : PairRow) → slice_get pairs i ≡ Some pair → row_of sizes neighbour_count pair ≡ Some row
+    → rows_of sizes neighbour_count (take (i + 1) pairs) ≡ rows_of sizes neighbour_count (take i pairs) ++ row ∷ []
+rows_of-next sizes neighbour_count pairs i pair row at is =
+    ap (rows_of sizes neighbour_count) (take_at pairs i pair at) ∙ filter_map-append (row_of sizes neighbour_count) (take i pairs) (pair ∷ [])
+    ∙ ap (λ last. rows_of sizes neighbour_count (take i pairs) ++ cons_option last []) is
 
 -- the first row of a cell, or the last
 abbrev or_row : Option Pair → Bool → Pair → Option Pair
@@ -68,16 +68,16 @@ cells_of-push sizes columns rows row empty =
     apart_false a b apart = elim (a == b) as (λ t. (a == b) ≡ t → t ≡ false) [ true ↦ λ e. absurd (apart (eqb-true a b e)) | false ↦ λ e. refl ] refl
 
 -- in range, two rows stand in one cell exactly where they name the same sizes
-one_cell : (columns : ℕ) (row other : PairRow) → row.beside < columns → other.beside < columns → (cell_of columns other == cell_of columns row) ≡ same_sizes row other
+one_cell : (columns : ℕ) (row other : PairRow) → row.neighbour_size < columns → other.neighbour_size < columns → (cell_of columns other == cell_of columns row) ≡ same_sizes row other
 one_cell columns row other within too =
-    let Same : Type 0 = (row.size ≡ other.size) × (row.beside ≡ other.beside) in
+    let Same : Type 0 = (row.size ≡ other.size) × (row.neighbour_size ≡ other.neighbour_size) in
     let by_cell : Decides (cell_of columns other == cell_of columns row) Same = (
-      λ e. let places = same_from_place other.size other.beside row.size row.beside columns too within (eqb-true (cell_of columns other) (cell_of columns row) e) in (sym places.0, sym places.1),
-      λ same. eq-eqb (cell_of columns other) (cell_of columns row) (ap (λ size. size * columns + other.beside) (sym same.0) ∙ ap (λ beside. row.size * columns + beside) (sym same.1)),
+      λ e. let places = same_from_place other.size other.neighbour_size row.size row.neighbour_size columns too within (eqb-true (cell_of columns other) (cell_of columns row) e) in (sym places.0, sym places.1),
+      λ same. eq-eqb (cell_of columns other) (cell_of columns row) (ap (λ size. size * columns + other.neighbour_size) (sym same.0) ∙ ap (λ in_column. row.size * columns + in_column) (sym same.1)),
     ) in
     let by_sizes : Decides (same_sizes row other) Same = (
-      λ e. let parts = both_true (row.size == other.size) (row.beside == other.beside) e in (eqb-true row.size other.size parts.0, eqb-true row.beside other.beside parts.1),
-      λ same. ap (λ b. b && (row.beside == other.beside)) (eq-eqb row.size other.size same.0) ∙ eq-eqb row.beside other.beside same.1,
+      λ e. let parts = both_true (row.size == other.size) (row.neighbour_size == other.neighbour_size) e in (eqb-true row.size other.size parts.0, eqb-true row.neighbour_size other.neighbour_size parts.1),
+      λ same. ap (λ b. b && (row.neighbour_size == other.neighbour_size)) (eq-eqb row.size other.size same.0) ∙ eq-eqb row.neighbour_size other.neighbour_size same.1,
     ) in
     same_from_decides _ (same_sizes row other) by_cell by_sizes
   where
@@ -86,13 +86,13 @@ one_cell columns row other within too =
     both_true false b e = cc
 
 -- so a cell is taken exactly where the same sizes were given before
-pub taken : (columns : ℕ) (rows : List PairRow) (row : PairRow) → row.beside < columns → All (λ (other : PairRow). other.beside < columns) rows
+pub taken : (columns : ℕ) (rows : List PairRow) (row : PairRow) → row.neighbour_size < columns → All (λ (other : PairRow). other.neighbour_size < columns) rows
     → is_some (pair_in columns rows (cell_of columns row)) ≡ list_any (same_sizes row) rows
 taken columns [] row within all = refl
 taken columns (other ∷ rows) row within all =
-    ap (λ b. is_some (cond b (Some other.pair) (pair_in columns rows (cell_of columns row)))) (one_cell columns row other within (All-head (λ (other : PairRow). other.beside < columns) other rows all))
+    ap (λ b. is_some (cond b (Some other.pair) (pair_in columns rows (cell_of columns row)))) (one_cell columns row other within (All-head (λ (other : PairRow). other.neighbour_size < columns) other rows all))
     ∙ either (same_sizes row other) other.pair (pair_in columns rows (cell_of columns row))
-    ∙ ap (λ b. same_sizes row other || b) (taken columns rows row within (All-tail (λ (other : PairRow). other.beside < columns) other rows all))
+    ∙ ap (λ b. same_sizes row other || b) (taken columns rows row within (All-tail (λ (other : PairRow). other.neighbour_size < columns) other rows all))
   where
     either : (b : Bool) (pair : Pair) (o : Option Pair) → is_some (cond b (Some pair) o) ≡ (b || is_some o)
     either true pair o = refl
@@ -132,22 +132,22 @@ placed n rows found read row old value some same =
     by_cases false = refl
 
 -- a row in range stands in a cell
-pub in_cells : (sizes columns : ℕ) (row : PairRow) → row.size < sizes → row.beside < columns → cell_of columns row < sizes * columns
-in_cells sizes columns row size beside = let fits = mul-add-lt row.size columns row.beside sizes size beside in omega (arith, mul_comm columns sizes)
+pub in_cells : (sizes columns : ℕ) (row : PairRow) → row.size < sizes → row.neighbour_size < columns → cell_of columns row < sizes * columns
+in_cells sizes columns row size in_column = let fits = mul-add-lt row.size columns row.neighbour_size sizes size in_column in omega (arith, mul_comm columns sizes)
 
 -- the cell that was looked at tells it
-pub looked : (sizes columns : ℕ) (rows : List PairRow) (row : PairRow) (cells : List (Option Pair)) (seen : Option Pair) → cells ≡ cells_of sizes columns rows → row.size < sizes → row.beside < columns
-    → All (λ (other : PairRow). other.beside < columns) rows → seen ≡ get_or cells (cell_of columns row) seen → list_any (same_sizes row) rows ≡ is_some seen
-looked sizes columns rows row cells seen is size beside all at =
-    sym (ap is_some (at ∙ ap (λ cs. get_or cs (cell_of columns row) seen) is ∙ cells_of-at sizes columns rows (cell_of columns row) seen (in_cells sizes columns row size beside))
-    ∙ taken columns rows row beside all)
+pub looked : (sizes columns : ℕ) (rows : List PairRow) (row : PairRow) (cells : List (Option Pair)) (seen : Option Pair) → cells ≡ cells_of sizes columns rows → row.size < sizes → row.neighbour_size < columns
+    → All (λ (other : PairRow). other.neighbour_size < columns) rows → seen ≡ get_or cells (cell_of columns row) seen → list_any (same_sizes row) rows ≡ is_some seen
+looked sizes columns rows row cells seen is size in_column all at =
+    sym (ap is_some (at ∙ ap (λ cs. get_or cs (cell_of columns row) seen) is ∙ cells_of-at sizes columns rows (cell_of columns row) seen (in_cells sizes columns row size in_column))
+    ∙ taken columns rows row in_column all)
 
 -- where they weren't, the cell is empty, and the row is put there
-pub put : (sizes columns : ℕ) (rows more : List PairRow) (row : PairRow) (cells : List (Option Pair)) → cells ≡ cells_of sizes columns rows → more ≡ rows ++ row ∷ [] → row.beside < columns
-    → All (λ (other : PairRow). other.beside < columns) rows → list_any (same_sizes row) rows ≡ false → set cells (cell_of columns row) (Some row.pair) ≡ cells_of sizes columns more
-put sizes columns rows more row cells is next beside all new =
+pub put : (sizes columns : ℕ) (rows more : List PairRow) (row : PairRow) (cells : List (Option Pair)) → cells ≡ cells_of sizes columns rows → more ≡ rows ++ row ∷ [] → row.neighbour_size < columns
+    → All (λ (other : PairRow). other.neighbour_size < columns) rows → list_any (same_sizes row) rows ≡ false → set cells (cell_of columns row) (Some row.pair) ≡ cells_of sizes columns more
+put sizes columns rows more row cells is next in_column all new =
     ap (λ cs. set cs (cell_of columns row) (Some row.pair)) is
-    ∙ cells_of-push sizes columns rows row (none_there (pair_in columns rows (cell_of columns row)) (taken columns rows row beside all ∙ new))
+    ∙ cells_of-push sizes columns rows row (none_there (pair_in columns rows (cell_of columns row)) (taken columns rows row in_column all ∙ new))
     ∙ ap (cells_of sizes columns) (sym next)
   where
     none_there : (o : Option Pair) → is_some o ≡ false → o ≡ None

@@ -26,10 +26,10 @@ pub added_is_new : (name given : List ℕ) (names earlier : List (List ℕ)) (ad
 added_is_new name given names earlier added is all same = sym (is ∙ ap (λ ns. not (is_among name ns)) all ∙ ap (λ n. not (is_among n earlier)) same)
 
 -- the names of the tables are those of what the tables say
-pub names_seen : (tables : List Members) → table_names tables ≡ entry_names (map entry_of tables)
-names_seen [] = refl
-names_seen (table ∷ tables) = ap (λ names. (entry_of table).name ∷ names) (names_seen tables)
+pub entry_names_are : (tables : List Members) → table_names tables ≡ entry_names (map entry_of tables)
+entry_names_are [] = refl
+entry_names_are (table ∷ tables) = ap (λ names. (entry_of table).name ∷ names) (entry_names_are tables)
 
 -- the rules of a section's neighbour, by the place of the section
-abbrev pub known_own : List (List ℕ) → ℕ → SectionEntry → List Rule
-known_own names n section = known_rules names n section.neighbour
+abbrev pub known_rules_at : List (List ℕ) → ℕ → SectionEntry → List Rule
+known_rules_at names n section = known_rules names n section.neighbour

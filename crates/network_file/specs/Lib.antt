@@ -4,4 +4,4 @@ pub mod SectionTables
 pub mod Neighbours
 pub mod Pairs
 pub mod NetworkFile
-pub mod Seen
+pub mod TableEntries

@@ -7,6 +7,7 @@ use Rattle.name_index.specs.Places.{place_of, is_among}
 use Rattle.file_definitions.specs.Elements.{each}
 use Rattle.network_file.specs.SectionTables.{SectionEntry}
 
+-- the names of the sections
 abbrev pub entry_names : List SectionEntry → List (List ℕ)
 entry_names sections = map (λ section. section.name) sections
 
@@ -14,6 +15,7 @@ entry_names sections = map (λ section. section.name) sections
 abbrev pub neighbour_among : List (List ℕ) → Option (List ℕ) → Option ℕ
 neighbour_among names neighbour = option_and_then (λ name. place_of name names) neighbour
 
+-- the number of the section's neighbour; none at the fan
 abbrev pub neighbour_of : List SectionEntry → SectionEntry → Option ℕ
 neighbour_of sections section = neighbour_among (entry_names sections) section.neighbour
 
@@ -26,13 +28,15 @@ is_known names (Some name) = is_among name names
 abbrev pub known_rules : List (List ℕ) → ℕ → Option (List ℕ) → List Rule
 known_rules names n neighbour = at_section n (is_known names neighbour) UnknownNeighbour ∷ []
 
+-- the rules of the neighbour of the section after these
 abbrev pub neighbour_rules : List SectionEntry → List SectionEntry → SectionEntry → List Rule
 neighbour_rules sections before section = known_rules (entry_names sections) (length before + 1) section.neighbour
 
 -- each neighbour is a section, which may stand earlier or later
-abbrev pub neighbours_rules : List SectionEntry → List Rule
-neighbours_rules sections = each (neighbour_rules sections) sections
+abbrev pub all_neighbour_rules : List SectionEntry → List Rule
+all_neighbour_rules sections = each (neighbour_rules sections) sections
 
+-- the tree of the sections
 abbrev pub tree_of : List SectionEntry → Tree
 tree_of sections = record {
   neighbours = map (neighbour_of sections) sections;
@@ -40,5 +44,5 @@ tree_of sections = record {
 }
 
 -- each neighbour is a section, and together they are a tree
-abbrev pub trees_rules : List SectionEntry → List Rule
-trees_rules sections = neighbours_rules sections ++ tree_rules (tree_of sections)
+abbrev pub neighbour_and_tree_rules : List SectionEntry → List Rule
+neighbour_and_tree_rules sections = all_neighbour_rules sections ++ tree_rules (tree_of sections)

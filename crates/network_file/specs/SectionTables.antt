@@ -1,5 +1,5 @@
 -- The tables of the sections of a network file.
-use Rattle.std.specs.Prelude.{ℕ, ◌+◌, List, [], ◌∷◌, ◌++◌, codes, map, length, nat_le, Bool, not, if◌then◌else◌, Option, Some, None, option_and_then, option_map, is_some, unwrap_or}
+use Rattle.std.specs.Prelude.{ℕ, ◌+◌, List, [], ◌∷◌, ◌++◌, codes, map, length, nat_le, not, if◌then◌else◌, Option, Some, None, option_and_then, option_map, is_some, unwrap_or}
 use Rattle.std.specs.Str.{bytes_eq}
 use Rattle.toml.specs.Data.{Data, Members}
 use Rattle.duct_units.specs.declared.fault.Reason.TheVariants.{Key, Field, TooMany, Twice}
@@ -11,25 +11,28 @@ use Rattle.name_index.specs.Places.{is_among}
 use Rattle.file_definitions.specs.Document.{has_only, has_key, text_at, name_at, names_at, arrays_at}
 use Rattle.file_definitions.specs.Elements.{each}
 
+-- the keys that the table of a section may have
 abbrev pub section_keys : List (List ℕ)
 section_keys = codes "name" ∷ codes "side" ∷ codes "neighbour" ∷ codes "sizes" ∷ codes "pairs" ∷ []
 
+-- the side that the word names
 abbrev pub side_called : List ℕ → Option Side
 side_called word =
     if bytes_eq word (codes "supply") then Some Supply
     else if bytes_eq word (codes "return") then Some Return
     else None
 
+-- the side at its key; none where no word of a side stands there
 abbrev pub side_at : Members → Option Side
 side_at table = option_and_then side_called (text_at (codes "side") table)
 
--- the neighbour's name, none where the key is absent
+-- the neighbour's name, or that it has none where the key is absent
 abbrev pub neighbour_at : Members → Option (Option (List ℕ))
 neighbour_at table =
     if has_key (codes "neighbour") table then option_map (λ name. Some name) (name_at (codes "neighbour") table)
     else Some None
 
--- What the table of a section says: the neighbour by its name, none at the fan, and each pair as an array of values.
+-- what the table of a section says: the neighbour by its name, none at the fan, and each pair as an array of values
 pub record SectionEntry : Type 0 where
   pub name : List ℕ
   pub side : Side
@@ -37,7 +40,7 @@ pub record SectionEntry : Type 0 where
   pub sizes : List (List ℕ)
   pub pairs : List (List Data)
 
--- where the rules below hold
+-- what the table of a section says, where the rules below hold
 abbrev pub entry_of : Members → SectionEntry
 entry_of table = record {
   name = unwrap_or (name_at (codes "name") table) [];
@@ -47,10 +50,11 @@ entry_of table = record {
   pairs = unwrap_or (arrays_at (codes "pairs") table) [];
 }
 
+-- the names of the sections of these tables
 abbrev pub table_names : List Members → List (List ℕ)
 table_names tables = map (λ table. (entry_of table).name) tables
 
--- no other key; then key by key
+-- the rules of the n-th section's table: no other key; then key by key
 abbrev pub section_table_rules : ℕ → Members → List Rule
 section_table_rules n table =
     at_section n (has_only section_keys table) Key
@@ -60,12 +64,12 @@ section_table_rules n table =
     ∷ at_section n (is_some (names_at (codes "sizes") table)) Field
     ∷ at_section n (is_some (arrays_at (codes "pairs") table)) Field ∷ []
 
--- the section after these: its table, and a name that none of them has
+-- the rules of the section after these: its table, and a name that none of them has
 abbrev pub section_rules : List Members → Members → List Rule
 section_rules before table =
     let n = length before + 1 in
     section_table_rules n table ++ at_section n (not (is_among (entry_of table).name (table_names before))) Twice ∷ []
 
 -- at most 500 sections, each of which is in order
-abbrev pub sections_rules : List Members → List Rule
-sections_rules tables = at_file (nat_le (length tables) MAX_SECTIONS) TooMany ∷ each section_rules tables
+abbrev pub all_section_rules : List Members → List Rule
+all_section_rules tables = at_file (nat_le (length tables) MAX_SECTIONS) TooMany ∷ each section_rules tables

@@ -5,6 +5,7 @@ use Rattle.duct_units.specs.declared.fault.Reason.TheVariants.{Key, Field, Forma
 use Rattle.duct_units.specs.Rules.{Rule, at_file}
 use Rattle.file_definitions.specs.Document.{has_only, has_key, number_at, name_at, tables_at}
 
+-- the keys that the top table may have
 abbrev pub top_keys : List (List ℕ)
 top_keys = codes "format" ∷ codes "name" ∷ codes "fan" ∷ codes "section" ∷ []
 
@@ -16,11 +17,11 @@ has_format doc = is_some (option_and_then as_integer (get_member (codes "format"
 abbrev pub is_format_1 : Members → Bool
 is_format_1 doc = is_some (number_at (codes "format") 1 1 doc)
 
--- the tables of the fans, none where the key is absent
+-- the tables at the key of the fans, an empty list where the key is absent
 abbrev pub fans_at : Members → Option (List Members)
 fans_at doc = if has_key (codes "fan") doc then tables_at (codes "fan") doc else Some []
 
--- no other key; then key by key
+-- the rules of the top table: no other key; then key by key
 abbrev pub top_rules : Members → List Rule
 top_rules doc =
     at_file (has_only top_keys doc) Key
@@ -30,21 +31,26 @@ top_rules doc =
     ∷ at_file (is_some (fans_at doc)) Field
     ∷ at_file (is_some (tables_at (codes "section") doc)) Field ∷ []
 
--- what the keys hold, where these rules hold
+-- ---- what the keys hold, where these rules hold
+
+-- the name of the network
 abbrev pub network_name : Members → List ℕ
 network_name doc = unwrap_or (name_at (codes "name") doc) []
 
+-- the tables of the fans
 abbrev pub fan_tables : Members → List Members
 fan_tables doc = unwrap_or (fans_at doc) []
 
+-- the tables of the sections
 abbrev pub section_tables : Members → List Members
 section_tables doc = unwrap_or (tables_at (codes "section") doc) []
 
--- What the top table says, of the fans and of the sections their tables.
+-- what the top table says: the name, and the tables of the fans and of the sections
 pub record TopEntry : Type 0 where
   pub name : List ℕ
   pub fans : List Members
   pub sections : List Members
 
+-- what the top table says, where these rules hold
 abbrev pub top_in : Members → TopEntry
 top_in doc = record { name = network_name doc; fans = fan_tables doc; sections = section_tables doc }

@@ -3,8 +3,8 @@ ghost use Rattle.std.specs.Prelude.{◌≡◌, ◌≤◌, length, map};
 ghost use Rattle.toml.specs.View.{table_view};
 ghost use Rattle.duct_units.specs.Rules.{Gives, unless_refused, first_broken};
 ghost use Rattle.file_definitions.specs.Elements.{each};
-ghost use Rattle.toml_fields.specs.Kinds.{tables_in};
-ghost use Rattle.network_file.specs.FanTables.{fans_rules, fan_rules, fan_table_rules, fan_of};
+ghost use Rattle.toml_fields.specs.ArrayItems.{tables_in};
+ghost use Rattle.network_file.specs.FanTables.{all_fan_rules, fan_rules, fan_table_rules, fan_of};
 
 use duct_definitions::{MAX_FAN_COST, MAX_FANS, MAX_PRESSURE, NetFan};
 use duct_units::{Fault, List, ReadError, Reason};
@@ -17,16 +17,16 @@ use toml_fields::{Tables, has_only, name_at, number_at};
 /// name that an earlier one has.
 pub(crate) fn read_fans(alloc: Global, tables: &Tables) -> Result<List<NetFan>, ReadError>
     ensures { let fans = tables_in tables.now in
-        Gives result (unless_refused (first_broken (fans_rules fans)) (map fan_of fans)) }
+        Gives result (unless_refused (first_broken (all_fan_rules fans)) (map fan_of fans)) }
 {
     if tables.len() > MAX_FANS {
         return Err(ReadError::Refused(Fault::of_file(Reason::TooMany)));
     }
-    read_each(alloc, tables)
+    read_fan_tables(alloc, tables)
 }
 
 /// The fans, where they are few enough.
-fn read_each(alloc: Global, tables: &Tables) -> Result<List<NetFan>, ReadError>
+fn read_fan_tables(alloc: Global, tables: &Tables) -> Result<List<NetFan>, ReadError>
     requires { length (tables_in tables.now) ≤ MAX_FANS }
     ensures { let fans = tables_in tables.now in
         Gives result (unless_refused (first_broken (each fan_rules fans)) (map fan_of fans)) }

@@ -1,8 +1,8 @@
 //! The neighbours of the sections.
 ghost use Rattle.std.specs.Prelude.{◌≡◌, ◌≤◌, length, map};
 ghost use Rattle.duct_units.specs.Rules.{Gives, unless_refused, first_broken};
-ghost use Rattle.network_file.specs.Neighbours.{neighbours_rules, neighbour_of, neighbour_among, known_rules, entry_names};
-ghost use Rattle.network_file.specs.Seen.{entry_seen};
+ghost use Rattle.network_file.specs.Neighbours.{all_neighbour_rules, neighbour_of, neighbour_among, known_rules, entry_names};
+ghost use Rattle.network_file.specs.TableEntries.{section_entry};
 
 use crate::sections::SectionTable;
 use duct_definitions::MAX_SECTIONS;
@@ -17,9 +17,10 @@ pub(crate) fn read_neighbours(
     names: &NameIndex,
 ) -> Result<List<Option<u32>>, ReadError>
     requires few { length sections.now ≤ MAX_SECTIONS }
-    requires names { names.now ≡ entry_names (map entry_seen sections.now) }
-    ensures { let entries = map entry_seen sections.now in
-        Gives result (unless_refused (first_broken (neighbours_rules entries)) (map (neighbour_of entries) entries)) }
+    requires names { names.now ≡ entry_names (map section_entry sections.now) }
+    ensures { let entries = map section_entry sections.now in
+        Gives result
+        (unless_refused (first_broken (all_neighbour_rules entries)) (map (neighbour_of entries) entries)) }
 {
     let mut neighbours = Vec::with_capacity(alloc, sections.len()).map_err(
         |_| ReadError::NoMemory,

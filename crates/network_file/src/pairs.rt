@@ -3,8 +3,8 @@ ghost use Rattle.std.specs.Prelude.{◌≡◌, ◌*◌, ◌<◌, ◌≤◌, map,
 ghost use Rattle.toml.specs.View.{view};
 ghost use Rattle.duct_units.specs.Rules.{Gives, unless_refused, first_broken};
 ghost use Rattle.file_definitions.specs.Elements.{each};
-ghost use Rattle.toml_fields.specs.Kinds.{arrays_in};
-ghost use Rattle.network_file.specs.Pairs.{pairs_rules, pair_rules, row_of, size_in, beside_in, rows_of, cells_of, columns_of};
+ghost use Rattle.toml_fields.specs.ArrayItems.{arrays_in};
+ghost use Rattle.network_file.specs.Pairs.{all_pair_rules, pair_rules, row_of, size_in, neighbour_size_in, rows_of, cells_of, columns_of};
 
 use duct_definitions::{MAX_LOSS, MAX_PRICE, MAX_SIZES, Pair};
 use duct_units::{Fault, List, NoMemory, ReadError, Reason};
@@ -17,55 +17,57 @@ pub const MAX_PAIRS: usize = MAX_SIZES * MAX_SIZES;
 
 /// What a pair of the file says. Sizes count from 0; at the fan the neighbour's size is 0.
 #[derive(Clone, Copy)]
-pub(crate) struct PairRow {
+pub struct PairRow {
+    /// The number of the size.
     pub size: usize,
-    pub beside: usize,
+    /// The number of the neighbour's size.
+    pub neighbour_size: usize,
+    /// The loss and the price of the two.
     pub pair: Pair,
 }
 
-/// The pairs of the section at a place, which has so many sizes and stands beside so many of its neighbour's, or
-/// the first rule that is broken: too many; then pair by pair one of another form or out of range, or one whose
-/// sizes were given before.
+/// The pairs of the section at a place, from how many sizes it and its neighbour have, or the first rule that is
+/// broken: too many; then pair by pair one of another form or out of range, or one whose sizes were given before.
 pub(crate) fn read_pairs(
     alloc: Global,
     pairs: &Arrays,
-    sizes: usize,
-    beside: Option<usize>,
+    size_count: usize,
+    neighbour_count: Option<usize>,
     place: u32,
 ) -> Result<List<Option<Pair>>, ReadError>
-    requires sizes { sizes ≤ MAX_SIZES }
-    requires beside { IfSome beside (λ n. n ≤ MAX_SIZES) }
+    requires sizes { size_count ≤ MAX_SIZES }
+    requires neighbour { IfSome neighbour_count (λ n. n ≤ MAX_SIZES) }
     ensures { let given = arrays_in pairs.now in
-        Gives result (unless_refused (first_broken (pairs_rules place sizes beside given))
-        (cells_of sizes (columns_of beside) (rows_of sizes beside given))) }
+        Gives result (unless_refused (first_broken (all_pair_rules place size_count neighbour_count given))
+        (cells_of size_count (columns_of neighbour_count) (rows_of size_count neighbour_count given))) }
 {
     if pairs.len() > MAX_PAIRS {
         return Err(ReadError::Refused(Fault::of_section(place, Reason::TooMany)));
     }
-    read_each(alloc, pairs, sizes, beside, place)
+    read_pair_rows(alloc, pairs, size_count, neighbour_count, place)
 }
 
 /// The pairs, where they are few enough.
-fn read_each(
+fn read_pair_rows(
     alloc: Global,
     pairs: &Arrays,
-    sizes: usize,
-    beside: Option<usize>,
+    size_count: usize,
+    neighbour_count: Option<usize>,
     place: u32,
 ) -> Result<List<Option<Pair>>, ReadError>
-    requires sizes { sizes ≤ MAX_SIZES }
-    requires beside { IfSome beside (λ n. n ≤ MAX_SIZES) }
+    requires sizes { size_count ≤ MAX_SIZES }
+    requires neighbour { IfSome neighbour_count (λ n. n ≤ MAX_SIZES) }
     ensures { let given = arrays_in pairs.now in
-        Gives result (unless_refused (first_broken (each (pair_rules place sizes beside) given))
-        (cells_of sizes (columns_of beside) (rows_of sizes beside given))) }
+        Gives result (unless_refused (first_broken (each (pair_rules place size_count neighbour_count) given))
+        (cells_of size_count (columns_of neighbour_count) (rows_of size_count neighbour_count given))) }
 {
-    let columns = columns_of(beside);
-    let mut cells = no_pairs(alloc, sizes * columns)?;
+    let columns = columns_of(neighbour_count);
+    let mut cells = no_pairs(alloc, size_count * columns)?;
     for i in 0..pairs.len() {
-        let Some(row) = read_row(pairs.get(i), sizes, beside) else {
+        let Some(row) = read_row(pairs.get(i), size_count, neighbour_count) else {
             return Err(ReadError::Refused(Fault::of_section(place, Reason::Pair)));
         };
-        let cell = row.size * columns + row.beside;
+        let cell = row.size * columns + row.neighbour_size;
         if cells[cell].is_some() {
             return Err(ReadError::Refused(Fault::of_section(place, Reason::Twice)));
         }
@@ -75,12 +77,12 @@ fn read_each(
 }
 
 /// The neighbour's number of sizes, and 1 at the fan.
-fn columns_of(beside: Option<usize>) -> usize
-    requires { IfSome beside (λ n. n ≤ MAX_SIZES) }
-    ensures value { result ≡ columns_of beside }
+fn columns_of(neighbour_count: Option<usize>) -> usize
+    requires { IfSome neighbour_count (λ n. n ≤ MAX_SIZES) }
+    ensures value { result ≡ columns_of neighbour_count }
     ensures few { result ≤ MAX_SIZES }
 {
-    beside.unwrap_or(1)
+    neighbour_count.unwrap_or(1)
 }
 
 /// So many cells without a pair.
@@ -91,25 +93,26 @@ fn no_pairs(alloc: Global, count: usize) -> Result<Vec<Option<Pair>>, NoMemory>
 }
 
 /// The pair of four integers: a size, the neighbour's size, a loss and a price, each within its bounds.
-fn read_row(values: &[Value], sizes: usize, beside: Option<usize>) -> Option<PairRow>
-    ensures value { result ≡ row_of sizes beside (map view values.now) }
-    ensures within { IfSome result (λ row. (row.size < sizes) × (row.beside < columns_of beside)) }
+fn read_row(values: &[Value], size_count: usize, neighbour_count: Option<usize>) -> Option<PairRow>
+    ensures value { result ≡ row_of size_count neighbour_count (map view values.now) }
+    ensures within { IfSome result (λ row.
+        (row.size < size_count) × (row.neighbour_size < columns_of neighbour_count)) }
 {
     let [size, neighbour_size, loss, price] = values else {
         return None;
     };
-    let size = size_in(size, sizes)?;
-    let beside = beside_in(neighbour_size, beside)?;
+    let size = size_in(size, size_count)?;
+    let neighbour_size = neighbour_size_in(neighbour_size, neighbour_count)?;
     let loss = bounded(0, MAX_LOSS, loss.as_integer())?;
     let price = bounded(0, MAX_PRICE, price.as_integer())?;
     Some(PairRow {
         size,
-        beside,
+        neighbour_size,
         pair: Pair { loss, price },
     })
 }
 
-/// The size of so many, which the file counts from 1.
+/// The number of a size of so many, from 0; the file counts it from 1.
 fn size_in(value: &Value, count: usize) -> Option<usize>
     ensures value { result ≡ size_in count (view value.now) }
     ensures within { IfSome result (λ size. size < count) }
@@ -118,12 +121,12 @@ fn size_in(value: &Value, count: usize) -> Option<usize>
     Some(size as usize - 1)
 }
 
-/// The neighbour's size, which the file writes as 0 at the fan.
-fn beside_in(value: &Value, beside: Option<usize>) -> Option<usize>
-    ensures value { result ≡ beside_in beside (view value.now) }
-    ensures within { IfSome result (λ size. size < columns_of beside) }
+/// The number of the neighbour's size, which the file writes as 0 at the fan.
+fn neighbour_size_in(value: &Value, neighbour_count: Option<usize>) -> Option<usize>
+    ensures value { result ≡ neighbour_size_in neighbour_count (view value.now) }
+    ensures within { IfSome result (λ size. size < columns_of neighbour_count) }
 {
-    match beside {
+    match neighbour_count {
         Some(count) => size_in(value, count),
         None => {
             let size = bounded(0, 0, value.as_integer())?;

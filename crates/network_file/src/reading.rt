@@ -2,15 +2,15 @@
 //! the sizes and pairs.
 ghost use Rattle.toml.specs.View.{table_view};
 ghost use Rattle.duct_units.specs.Rules.{Gives, unless_refused, first_broken};
-ghost use Rattle.network_file.specs.Neighbours.{entry_names, trees_rules, tree_of};
+ghost use Rattle.network_file.specs.Neighbours.{entry_names, neighbour_and_tree_rules, tree_of};
 ghost use Rattle.network_file.specs.NetworkFile.{network_of, reading};
-ghost use Rattle.network_file.specs.Seen.{sections_seen};
+ghost use Rattle.network_file.specs.TableEntries.{section_entries};
 ghost use Rattle.std.specs.Prelude.{◌≡◌, ◌≤◌, Some, length, map, IfOk};
 
 use crate::fans::read_fans;
-use crate::losses::read_losses;
 use crate::neighbours::read_neighbours;
 use crate::sections::{SectionTable, Sections, read_sections};
+use crate::sizes_and_pairs::read_all_sizes_and_pairs;
 use crate::top::read_top;
 use air_tree::AirTree;
 use duct_definitions::MAX_SECTIONS;
@@ -20,8 +20,7 @@ use std::alloc::Global;
 use toml::Table;
 use toml_fields::{DocumentError, read_document};
 
-/// The network of a network file, or the first rule of the file that it breaks, in the order of README.md,
-/// "The rules, in their order".
+/// The network of a network file, or the first rule of the file that it breaks (docs/FORMATS.md, "Network file").
 ///
 /// The bytes may be of any length. What is kept beside the document is bounded by the limits of a network.
 pub fn read_network(alloc: Global, bytes: &[u8]) -> Result<Network, ReadError>
@@ -48,13 +47,13 @@ fn network_in(alloc: Global, document: &Table) -> Result<Network, ReadError>
         Err(error) => return Err(error),
     };
     let tree = read_tree(alloc, &sections)?;
-    let losses = read_losses(alloc, sections.tables.as_slice(), &tree)?;
+    let lists = read_all_sizes_and_pairs(alloc, sections.tables.as_slice(), &tree)?;
     Ok(Network::new(
         top.name,
         tree,
         sections.names.into_list(),
-        losses.sizes,
-        losses.pairs,
+        lists.sizes,
+        lists.pairs,
         fans,
     ))
 }
@@ -62,9 +61,9 @@ fn network_in(alloc: Global, document: &Table) -> Result<Network, ReadError>
 /// The tree of the sections, or the first rule of a tree that they break.
 fn read_tree(alloc: Global, sections: &Sections) -> Result<AirTree, ReadError>
     requires few { length sections.now.tables.items ≤ MAX_SECTIONS }
-    requires names { sections.now.names ≡ entry_names (sections_seen sections.now) }
-    ensures { let entries = sections_seen sections.now in
-        Gives result (unless_refused (first_broken (trees_rules entries)) (tree_of entries)) }
+    requires names { sections.now.names ≡ entry_names (section_entries sections.now) }
+    ensures { let entries = section_entries sections.now in
+        Gives result (unless_refused (first_broken (neighbour_and_tree_rules entries)) (tree_of entries)) }
 {
     let tables = sections.tables.as_slice();
     let neighbours = read_neighbours(alloc, tables, &sections.names)?;

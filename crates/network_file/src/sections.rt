@@ -4,10 +4,10 @@ ghost use Rattle.toml.specs.View.{table_view};
 ghost use Rattle.duct_units.specs.Rules.{unless_refused, first_broken};
 ghost use Rattle.file_definitions.specs.Elements.{each};
 ghost use Rattle.file_definitions.specs.Reading.{GivesAs, ReadsAs};
-ghost use Rattle.toml_fields.specs.Kinds.{tables_in};
-ghost use Rattle.network_file.specs.SectionTables.{sections_rules, section_rules, section_table_rules, entry_of, side_at, neighbour_at};
+ghost use Rattle.toml_fields.specs.ArrayItems.{tables_in};
+ghost use Rattle.network_file.specs.SectionTables.{all_section_rules, section_rules, section_table_rules, entry_of, side_at, neighbour_at};
 ghost use Rattle.network_file.specs.Neighbours.{entry_names};
-ghost use Rattle.network_file.specs.Seen.{entry_seen, sections_seen};
+ghost use Rattle.network_file.specs.TableEntries.{section_entry, section_entries};
 
 use duct_definitions::MAX_SECTIONS;
 use duct_units::{Fault, Name, ReadError, Reason, Side};
@@ -40,23 +40,24 @@ pub(crate) fn read_sections<'t>(
     tables: &Tables<'t>,
 ) -> Result<Sections<'t>, ReadError>
     ensures value { let sections = tables_in tables.now in
-        GivesAs sections_seen result (unless_refused (first_broken (sections_rules sections)) (map entry_of sections)) }
-    ensures names { IfOk result (λ sections. sections.names ≡ entry_names (sections_seen sections)) }
+        GivesAs section_entries result
+        (unless_refused (first_broken (all_section_rules sections)) (map entry_of sections)) }
+    ensures names { IfOk result (λ sections. sections.names ≡ entry_names (section_entries sections)) }
     ensures few { IfOk result (λ sections. length sections.tables.items ≤ MAX_SECTIONS) }
 {
     if tables.len() > MAX_SECTIONS {
         return Err(ReadError::Refused(Fault::of_file(Reason::TooMany)));
     }
-    read_each(alloc, tables)
+    read_section_tables(alloc, tables)
 }
 
 /// The sections, where they are few enough.
-fn read_each<'t>(alloc: Global, tables: &Tables<'t>) -> Result<Sections<'t>, ReadError>
+fn read_section_tables<'t>(alloc: Global, tables: &Tables<'t>) -> Result<Sections<'t>, ReadError>
     requires { length (tables_in tables.now) ≤ MAX_SECTIONS }
     ensures value { let sections = tables_in tables.now in
-        GivesAs sections_seen result
+        GivesAs section_entries result
         (unless_refused (first_broken (each section_rules sections)) (map entry_of sections)) }
-    ensures names { IfOk result (λ sections. sections.names ≡ entry_names (sections_seen sections)) }
+    ensures names { IfOk result (λ sections. sections.names ≡ entry_names (section_entries sections)) }
     ensures few { IfOk result (λ sections. length sections.tables.items ≤ MAX_SECTIONS) }
 {
     let mut names = NameIndex::new(alloc);
@@ -83,7 +84,7 @@ fn read_each<'t>(alloc: Global, tables: &Tables<'t>) -> Result<Sections<'t>, Rea
 /// The table of a section, or the first of its keys that is refused.
 fn read_table(table: &Table, place: u32) -> Result<SectionTable<'_>, Fault>
     ensures { let section = table_view table.now in
-        ReadsAs entry_seen result
+        ReadsAs section_entry result
         (unless_refused (first_broken (section_table_rules place section)) (entry_of section)) }
 {
     if !has_only(table, &["name", "side", "neighbour", "sizes", "pairs"]) {

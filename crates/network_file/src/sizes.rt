@@ -2,8 +2,8 @@
 ghost use Rattle.std.specs.Prelude.{◌≡◌, ◌≤◌, length, IfOk};
 ghost use Rattle.duct_units.specs.Rules.{Gives, unless_refused, first_broken};
 ghost use Rattle.file_definitions.specs.Elements.{each};
-ghost use Rattle.toml_fields.specs.Kinds.{names_in};
-ghost use Rattle.network_file.specs.Pairs.{sizes_rules, size_rules};
+ghost use Rattle.toml_fields.specs.ArrayItems.{names_in};
+ghost use Rattle.network_file.specs.Pairs.{all_size_rules, size_name_rules};
 
 use duct_definitions::MAX_SIZES;
 use duct_units::{Fault, List, Name, ReadError, Reason};
@@ -14,7 +14,7 @@ use toml_fields::Names;
 /// The sizes of the section at a place, or the first rule that is broken: none, too many, or two of one name.
 pub(crate) fn read_sizes(alloc: Global, names: &Names, place: u32) -> Result<List<Name>, ReadError>
     ensures value { let sizes = names_in names.now in
-        Gives result (unless_refused (first_broken (sizes_rules place sizes)) sizes) }
+        Gives result (unless_refused (first_broken (all_size_rules place sizes)) sizes) }
     ensures few { IfOk result (λ sizes. length sizes ≤ MAX_SIZES) }
 {
     if names.len() == 0 {
@@ -23,14 +23,14 @@ pub(crate) fn read_sizes(alloc: Global, names: &Names, place: u32) -> Result<Lis
     if names.len() > MAX_SIZES {
         return Err(ReadError::Refused(Fault::of_section(place, Reason::TooMany)));
     }
-    read_each(alloc, names, place)
+    read_size_names(alloc, names, place)
 }
 
 /// The sizes, where they are few enough.
-fn read_each(alloc: Global, names: &Names, place: u32) -> Result<List<Name>, ReadError>
+fn read_size_names(alloc: Global, names: &Names, place: u32) -> Result<List<Name>, ReadError>
     requires { length (names_in names.now) ≤ MAX_SIZES }
     ensures value { let sizes = names_in names.now in
-        Gives result (unless_refused (first_broken (each (size_rules place) sizes)) sizes) }
+        Gives result (unless_refused (first_broken (each (size_name_rules place) sizes)) sizes) }
     ensures few { IfOk result (λ sizes. length sizes ≤ MAX_SIZES) }
 {
     let mut sizes = NameIndex::new(alloc);

@@ -4,8 +4,8 @@ ghost use Rattle.toml.specs.View.{table_view};
 ghost use Rattle.duct_units.specs.Rules.{unless_refused, first_broken};
 ghost use Rattle.file_definitions.specs.Reading.{ReadsAs};
 ghost use Rattle.network_file.specs.TopTable.{top_rules, top_in, fans_at};
-ghost use Rattle.toml_fields.specs.Kinds.{tables_in};
-ghost use Rattle.network_file.specs.Seen.{top_seen};
+ghost use Rattle.toml_fields.specs.ArrayItems.{tables_in};
+ghost use Rattle.network_file.specs.TableEntries.{top_entry};
 
 use duct_units::{Fault, Name, Reason};
 use toml::Table;
@@ -22,7 +22,7 @@ pub(crate) struct Top<'t> {
 /// The top table, or the first of its keys that is refused.
 pub(crate) fn read_top(table: &Table) -> Result<Top<'_>, Fault>
     ensures { let doc = table_view table.now in
-        ReadsAs top_seen result (unless_refused (first_broken (top_rules doc)) (top_in doc)) }
+        ReadsAs top_entry result (unless_refused (first_broken (top_rules doc)) (top_in doc)) }
 {
     if !has_only(table, &["format", "name", "fan", "section"]) {
         return Err(Fault::of_file(Reason::Key));

@@ -2,5 +2,5 @@ pub mod Places
 pub mod SizeRow
 pub mod Catalogue
 pub mod Numbers
-pub mod CatalogueHeld
+pub mod CatalogueIndex
 pub mod Reading

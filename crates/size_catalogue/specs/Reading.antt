@@ -10,6 +10,7 @@ use Rattle.name_index.specs.Places.{is_among}
 use Rattle.size_catalogue.specs.SizeRow.{size_of_row}
 use Rattle.size_catalogue.specs.Catalogue.{Catalogue, names_of, numbers_of, list_number, lists_with, with_size}
 
+-- the first row of a sizes file
 abbrev pub header : Row
 header = codes "list" ∷ codes "size" ∷ codes "area" ∷ codes "height" ∷ codes "metre" ∷ codes "join" ∷ codes "step" ∷ []
 
@@ -21,6 +22,7 @@ size_rules n before row =
     ∷ at_row n (nat_lt (length (numbers_of (list_number row.list before.lists) before.sizes)) MAX_LIST_SIZES) TooMany
     ∷ []
 
+-- what a sizes file asks of its rows; there is no rule behind the last row
 abbrev pub sizes_form : RowForm Catalogue SizeRow
 sizes_form = record {
   header = header;

@@ -4,13 +4,18 @@
 //! (docs/FORMATS.md, "Sizes").
 #![tactic(auto)]
 
+mod laws;
 mod limits;
 mod numbers;
 mod reading;
 mod row;
 mod sizes;
 
-pub use limits::{MAX_LIST_SIZES, MAX_LISTS};
+pub use laws::limits_as_numbers;
+pub use limits::{
+    COLUMNS, MAX_AREA, MAX_HEIGHT, MAX_JOIN_PRICE, MAX_LIST_SIZES, MAX_LISTS, MAX_METRE_PRICE,
+    MIN_AREA, MIN_HEIGHT,
+};
 pub use reading::read_sizes;
-pub use row::Size;
+pub use row::{Size, SizeRow};
 pub use sizes::Sizes;

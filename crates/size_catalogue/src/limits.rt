@@ -1,4 +1,7 @@
-//! The limits of a catalogue.
+//! The limits of a catalogue, and the columns of its file.
+
+/// The number of columns of a sizes file.
+pub const COLUMNS: usize = 7;
 
 /// The most lists of a catalogue.
 pub const MAX_LISTS: usize = 16;
@@ -11,6 +14,9 @@ pub const MIN_AREA: u64 = 1_000;
 
 /// The greatest area of a size, mm2.
 pub const MAX_AREA: u64 = 100_000_000;
+
+/// The least height of a size, mm.
+pub const MIN_HEIGHT: u64 = 1;
 
 /// The greatest height of a size, mm.
 pub const MAX_HEIGHT: u64 = 1_000_000;

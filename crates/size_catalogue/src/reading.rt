@@ -3,13 +3,14 @@ ghost use Rattle.std.specs.Prelude.{◌≡◌};
 ghost use Rattle.duct_units.specs.Rules.{Gives};
 ghost use Rattle.size_catalogue.specs.Reading.{sizes_of};
 
+use crate::limits::COLUMNS;
 use crate::sizes::Sizes;
 use csv_fields::Rows;
 use duct_units::ReadError;
 use std::alloc::Global;
 
 /// The first row of a sizes file.
-const HEADER: [&str; 7] = ["list", "size", "area", "height", "metre", "join", "step"];
+const HEADER: [&str; COLUMNS] = ["list", "size", "area", "height", "metre", "join", "step"];
 
 /// The sizes of a file's bytes, or its first refusal (docs/FORMATS.md, "Sizes"). No row behind the refused one is read.
 pub fn read_sizes(alloc: Global, bytes: &[u8]) -> Result<Sizes, ReadError>

@@ -3,7 +3,7 @@ ghost use Rattle.std.specs.Prelude.{◌≡◌, IfSome};
 ghost use Rattle.size_catalogue.specs.SizeRow.{size_of_row, IsRowInBounds};
 ghost use Rattle.size_catalogue.specs.Catalogue.{size_in_list};
 
-use crate::limits::{MAX_AREA, MAX_HEIGHT, MAX_JOIN_PRICE, MAX_METRE_PRICE, MIN_AREA};
+use crate::limits::{MAX_AREA, MAX_HEIGHT, MAX_JOIN_PRICE, MAX_METRE_PRICE, MIN_AREA, MIN_HEIGHT};
 use csv_fields::Rows;
 use duct_units::Name;
 
@@ -26,7 +26,7 @@ pub struct Size {
     pub step: u64,
 }
 
-/// What a row of a sizes file says: a size as in `Size`, and its list by name.
+/// What a row of a sizes file says: a size as in `Size`, with the same units, and its list by name.
 #[derive(Clone, Copy)]
 pub struct SizeRow {
     pub list: Name,
@@ -64,7 +64,7 @@ pub fn size_row(rows: &Rows<'_>) -> Option<SizeRow>
         list: rows.name(0)?,
         name: rows.name(1)?,
         area: rows.number(2, MIN_AREA, MAX_AREA)?,
-        height: rows.number(3, 1, MAX_HEIGHT)?,
+        height: rows.number(3, MIN_HEIGHT, MAX_HEIGHT)?,
         metre: rows.number(4, 0, MAX_METRE_PRICE)?,
         join: rows.number(5, 0, MAX_JOIN_PRICE)?,
         step: rows.number(6, 0, MAX_JOIN_PRICE)?,

@@ -6,7 +6,7 @@ ghost use Rattle.size_catalogue.specs.SizeRow.{IsRowInBounds};
 ghost use Rattle.size_catalogue.specs.Catalogue.{IsSize, IsCatalogue, names_of, numbers_of, list_number, lists_with};
 ghost use Rattle.size_catalogue.specs.Reading.{sizes_form};
 
-use crate::limits::{MAX_LIST_SIZES, MAX_LISTS};
+use crate::limits::{COLUMNS, MAX_LIST_SIZES, MAX_LISTS};
 use crate::numbers::add_number;
 use crate::row::{Size, SizeRow, size_row};
 use csv_fields::Rows;
@@ -14,9 +14,6 @@ use duct_units::{Name, NoMemory, ReadError, Reason};
 use name_index::NameIndex;
 use std::alloc::Global;
 use std::marker::Model;
-
-/// The number of fields of a row.
-const COLUMNS: usize = 7;
 
 /// Sizes in lists. Lists count from 0 in the order in which they first appear, sizes from 0 in file order.
 #[derive(Drop)]
@@ -32,11 +29,11 @@ impl Model for Sizes {
 
     ghost Value = { Catalogue };
 
-    ghost use Rattle.size_catalogue.specs.CatalogueHeld.{catalogue_held, IsHeld};
+    ghost use Rattle.size_catalogue.specs.CatalogueIndex.{catalogue_of, IsIndexed};
 
-    ghost view = { catalogue_held };
+    ghost view = { catalogue_of };
 
-    ghost invariant = { IsHeld };
+    ghost invariant = { IsIndexed };
 }
 
 impl Sizes {

@@ -18,7 +18,7 @@ impl<'t> Arrays<'t> {
     ghost use Rattle.std.specs.Prelude.{◌≡◌, ◌<◌, length, map, option_map, slice_get, Some};
     ghost use Rattle.toml.specs.View.{table_view, view};
     ghost use Rattle.file_definitions.specs.Document.{arrays_at};
-    ghost use Rattle.toml_fields.specs.Kinds.{arrays_in};
+    ghost use Rattle.toml_fields.specs.ArrayItems.{arrays_in};
 
     /// The arrays of the array of arrays at a key.
     pub fn at(table: &'t Table, key: &str) -> Option<Arrays<'t>>

@@ -18,7 +18,7 @@ pub enum DocumentError {
 }
 
 /// The document that the bytes are: TOML 1.1 in UTF-8, integers of 64 bits, arrays and tables at most 80 deep.
-/// A byte order mark at the front is passed over.
+/// A byte order mark before it is skipped.
 pub fn read_document(alloc: Global, bytes: &[u8]) -> Result<Table, DocumentError>
     ensures value { IfOk result (λ table. document_of bytes.now ≡ Some (table_view table)) }
     ensures refused { result ≡ Err DocumentError.Text → document_of bytes.now ≡ None }

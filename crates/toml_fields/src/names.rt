@@ -19,7 +19,7 @@ impl<'t> Names<'t> {
     ghost use Rattle.std.specs.Prelude.{◌≡◌, ◌<◌, length, option_map, slice_get, Some};
     ghost use Rattle.toml.specs.View.{table_view};
     ghost use Rattle.file_definitions.specs.Document.{names_at};
-    ghost use Rattle.toml_fields.specs.Kinds.{names_in};
+    ghost use Rattle.toml_fields.specs.ArrayItems.{names_in};
 
     /// The names of the array of names at a key.
     pub fn at(table: &'t Table, key: &str) -> Option<Names<'t>>

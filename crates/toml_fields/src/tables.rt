@@ -19,7 +19,7 @@ impl<'t> Tables<'t> {
     ghost use Rattle.std.specs.Prelude.{◌≡◌, ◌<◌, [], length, option_map, slice_get, Some};
     ghost use Rattle.toml.specs.View.{table_view};
     ghost use Rattle.file_definitions.specs.Document.{tables_at};
-    ghost use Rattle.toml_fields.specs.Kinds.{tables_in};
+    ghost use Rattle.toml_fields.specs.ArrayItems.{tables_in};
 
     /// No tables.
     pub fn none() -> Tables<'t>

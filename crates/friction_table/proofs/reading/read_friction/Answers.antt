@@ -1,10 +1,11 @@
-use Rattle.std.proofs.Common.{arith, rules}
+use Rattle.std.proofs.Common.{arith, rules, sym}
 use Rattle.duct_units.specs.Rules.{Fails}
 use Rattle.file_definitions.specs.Rows.{rows_of}
 use Rattle.csv_fields.specs.RowsLeft.{IsNextRow}
 use Rattle.csv_fields.proofs.ReadingLaws.{opened-refused, refused_row}
 use Rattle.friction_table.specs.Reading.{friction_form, friction_of}
 use Rattle.friction_table.proofs.ReadingLaws.{starts, goes_on, number_most}
+use Rattle.friction_table.proofs.TableLaws.{each_has_a_row}
 use Rattle.friction_table.proofs.reading.read_friction.Goals as goal
 
 pub returns-in_err-rows-clause-value : goal.returns-in_err-rows-clause-value
@@ -34,5 +35,8 @@ loop-friction-preserved c =
     goes_on c.args.sizes.now c.args.bytes.now c.loop-friction.rows c.advance.new.self c.loop-friction.friction c.in_ok-friction-2.friction
     c.loop-friction.invariant next c.in_ok-friction-2.ensures.takes c.in_ok-friction-2.ensures.adds
 
-pub missing_fault-requires : goal.missing_fault-requires
-missing_fault-requires c = omega (arith, c.in-Some.ensures.within, c.loop-friction.invariant.tables, c.loop-friction.invariant.most)
+pub missing-requires : goal.missing-requires
+missing-requires c = omega (arith, c.loop-friction.invariant.tables, c.loop-friction.invariant.most)
+
+pub returns-clause-rows : goal.returns-clause-rows
+returns-clause-rows c = each_has_a_row 1 c.loop-friction.friction (sym c.in-None.ensures)

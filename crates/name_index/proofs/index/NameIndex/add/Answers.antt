@@ -1,8 +1,8 @@
 use Rattle.std.proofs.Common.{rules, sym, ◌∙◌}
-use Rattle.name_index.proofs.PlaceLaws.{held_more, not_there}
+use Rattle.name_index.proofs.PlaceLaws.{is_place_map-push, not_there}
 use Rattle.name_index.proofs.index.NameIndex.add.Goals as goal
 
 pub invariant_of-self-in-Ok : goal.invariant_of-self-in-Ok
 invariant_of-self-in-Ok c =
     let absent = not_there _ _ (c.self.invariant c.args.name) (sym c.contains_key.ensures ∙ c.if-contains_key.false) in
-    search (rules, held_more, absent)
+    search (rules, is_place_map-push, absent)

@@ -1,5 +1,4 @@
 use Rattle.std.proofs.Common.{sym, ◌∙◌, subst, ◌<◌, length, IfSome}
-use Rattle.name_index.specs.Places.{place_of}
 use Rattle.name_index.proofs.PlaceLaws.{place_of-within}
 use Rattle.name_index.proofs.index.NameIndex.find.Goals as goal
 

@@ -3,13 +3,13 @@ use Rattle.std.proofs.lemmas.List.{length-map}
 use Rattle.size_catalogue.specs.declared.row.Size.{Size}
 use Rattle.name_index.specs.Places.{place_of}
 use Rattle.size_catalogue.specs.Catalogue.{Catalogue, names_of}
-use Rattle.size_catalogue.specs.CatalogueHeld.{catalogue_held}
+use Rattle.size_catalogue.specs.CatalogueIndex.{catalogue_of}
 use Rattle.size_catalogue.proofs.CatalogueLaws.{few}
 use Rattle.size_catalogue.proofs.PlaceLaws.{no_place}
 use Rattle.size_catalogue.proofs.sizes.Sizes.named.Goals as goal
 
 pub overflow_cast-result : goal.overflow_cast-result
-overflow_cast-result c = omega (arith, few (catalogue_held c.self.inside) c.self.invariant.is, c.in_ok-number.ensures.within, ap length c.self.invariant.names, length-map c.self.inside.sizes.items (λ (size : Size). size.name))
+overflow_cast-result c = omega (arith, few (catalogue_of c.self.inside) c.self.invariant.is, c.in_ok-number.ensures.within, ap length c.self.invariant.names, length-map c.self.inside.sizes.items (λ (size : Size). size.name))
 
 pub returns-clause-none : goal.returns-clause-none
 returns-clause-none c =

@@ -4,12 +4,12 @@ use Rattle.size_catalogue.specs.declared.limits.TheConstants.{MAX_LISTS, MAX_LIS
 use Rattle.size_catalogue.specs.Numbers.{numbers_at, with_number}
 use Rattle.name_index.specs.Places.{is_among}
 use Rattle.size_catalogue.specs.Catalogue.{IsCatalogue, names_of, numbers_of, list_number, lists_with, size_in_list}
-use Rattle.size_catalogue.specs.CatalogueHeld.{catalogue_held}
+use Rattle.size_catalogue.specs.CatalogueIndex.{catalogue_of}
 use Rattle.size_catalogue.proofs.CatalogueLaws.{few, list_number-most, names_of-push, numbers_held, as_many, with_size_is, not_there, had_room, IsCatalogue-with_size}
 use Rattle.size_catalogue.proofs.sizes.Sizes.with_size.Goals as goal
 
 pub overflow_cast-len : goal.overflow_cast-len
-overflow_cast-len c = omega (arith, few (catalogue_held c.self.inside) c.self.invariant.is)
+overflow_cast-len c = omega (arith, few (catalogue_of c.self.inside) c.self.invariant.is)
 
 pub add_number-requires : goal.add_number-requires
 add_number-requires c = omega (arith, c.in_ok-list.ensures.value, list_number-most c.args.row.list c.self.inside.lists, c.self.invariant.lists)
@@ -31,7 +31,7 @@ invariant_of-result c =
     let last = size_in_list (list_number row.list lists) row in
     let added = c.in_ok-add_number.ensures in
     let is_added = c.if-not-branch-2.false in
-    let catalogue = catalogue_held c.self.inside in
+    let catalogue = catalogue_of c.self.inside in
     let rows = vec_len c.self.inside.numbers in
     let more : (j : ℕ) → numbers_at c.add_number.new.numbers.items j ≡ with_number (last.list == j) (numbers_at c.self.inside.numbers.items j) c.len-else-len-gt-MAX_LISTS.result
     = λ j. (rw is_added at added.numbers j) ∙ ap (λ (i : ℕ). with_number (i == j) (numbers_at c.self.inside.numbers.items j) c.len-else-len-gt-MAX_LISTS.result) is_list in

@@ -1,0 +1,40 @@
+-- The number of sizes of a neighbour, among the sections that were read before.
+use Rattle.std.proofs.Common.{◌≡◌, ℕ, suc, zero, ◌<◌, List, [], ◌∷◌, length, take, map, Option, Some, None, option_map, IfSome, refl, ap, ◌∙◌, arith}
+use Rattle.std.specs.Prelude.{slice_get, unwrap_or}
+use Rattle.std.proofs.lemmas.Option.{slice_get-map}
+use Rattle.duct_definitions.specs.Tree.{neighbour}
+use Rattle.network_file.specs.SectionTables.{SectionEntry}
+use Rattle.network_file.specs.Neighbours.{neighbour_of, tree_of}
+use Rattle.network_file.specs.Pairs.{section_size_count, neighbour_size_count, size_and_pair_rules}
+use Rattle.duct_units.specs.Rules.{Rule}
+
+abbrev pub sizes_in : List SectionEntry → List (List (List ℕ))
+sizes_in sections = map (λ (section : SectionEntry). section.sizes) sections
+
+pub neighbour_in_tree : (sections : List SectionEntry) (s : ℕ) (section : SectionEntry) → slice_get sections s ≡ Some section → neighbour (tree_of sections) s ≡ neighbour_of sections section
+neighbour_in_tree sections s section at =
+    ap (λ o. unwrap_or o None) (slice_get-map (neighbour_of sections) sections s ∙ ap (option_map (neighbour_of sections)) at)
+
+-- the earlier ones are as among all
+given_before : (sections : List SectionEntry) (s n : ℕ) → n < s → length (unwrap_or (slice_get (sizes_in (take s sections)) n) []) ≡ section_size_count sections n
+given_before [] zero n less = absurd (omega arith)
+given_before [] (suc s) n less = refl
+given_before (section ∷ sections) zero n less = absurd (omega arith)
+given_before (section ∷ sections) (suc s) zero less = refl
+given_before (section ∷ sections) (suc s) (suc n) less = given_before sections s n (omega arith)
+
+before_or_none : (sections : List SectionEntry) (s : ℕ) (o : Option ℕ) → IfSome o (λ n. n < s)
+    → option_map (λ n. length (unwrap_or (slice_get (sizes_in (take s sections)) n) [])) o ≡ option_map (section_size_count sections) o
+before_or_none sections s None earlier = refl
+before_or_none sections s (Some n) earlier = ap (λ k. Some k) (given_before sections s n earlier)
+
+-- so the number of sizes that was found is the one of the neighbour
+pub found_size_count : (sections : List SectionEntry) (s : ℕ) (section : SectionEntry) (sizes : List (List (List ℕ))) (found : Option ℕ) → slice_get sections s ≡ Some section → sizes ≡ sizes_in (take s sections)
+    → IfSome (neighbour (tree_of sections) s) (λ n. n < s) → found ≡ option_map (λ n. length (unwrap_or (slice_get sizes n) [])) (neighbour (tree_of sections) s) → found ≡ neighbour_size_count sections section
+found_size_count sections s section sizes found at read earlier is =
+    is ∙ ap (λ ss. option_map (λ n. length (unwrap_or (slice_get ss n) [])) (neighbour (tree_of sections) s)) read
+    ∙ before_or_none sections s (neighbour (tree_of sections) s) earlier ∙ ap (option_map (section_size_count sections)) (neighbour_in_tree sections s section at)
+
+-- the rules of a section's sizes and pairs, by the place of the section
+abbrev pub size_and_pair_rules_at : List SectionEntry → ℕ → SectionEntry → List Rule
+size_and_pair_rules_at sections n section = size_and_pair_rules n (neighbour_size_count sections section) section
