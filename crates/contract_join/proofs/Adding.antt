@@ -14,7 +14,7 @@ use Rattle.least_laws.proofs.DuctsOf.{columns-child}
 use Rattle.duct_definitions.specs.Network.{Network, IsNetwork, size_count, columns, cap}
 use Rattle.duct_units.specs.Prices.{both_of}
 use Rattle.least_laws.specs.Prices.{sum_of}
-use Rattle.least_laws.specs.LeastIn.{least_in}
+use Rattle.least_laws.specs.LeastFromChildren.{least_in}
 use Rattle.least_laws.proofs.SumOf.{sum_of-last}
 use Rattle.contract_join.specs.declared.front_sum.Run.{Run}
 use Rattle.contract_join.specs.SectionFronts.{NeedsWithin, CostsWithin, most_beyond}

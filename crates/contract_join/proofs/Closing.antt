@@ -16,7 +16,7 @@ use Rattle.least_laws.specs.Least.{IsLeast}
 use Rattle.duct_definitions.proofs.TreeLaws.{few_sections}
 use Rattle.duct_units.specs.Prices.{lesser, both_of}
 use Rattle.least_laws.specs.Prices.{least_below, sum_of, with_pair}
-use Rattle.least_laws.specs.LeastIn.{least_in, least_with, IsExact}
+use Rattle.least_laws.specs.LeastFromChildren.{least_in, least_with, IsExact}
 use Rattle.least_laws.proofs.Bounds.{least_bounded}
 use Rattle.least_laws.proofs.Leasts.{least_in-is, least_in-step}
 use Rattle.least_laws.proofs.SumOf.{least_below-next}

@@ -14,7 +14,7 @@ use Rattle.duct_definitions.specs.Tree.{section_count, children}
 use Rattle.duct_definitions.specs.Network.{Network, IsNetwork, size_count, cap}
 use Rattle.duct_units.specs.Prices.{both_of}
 use Rattle.least_laws.specs.Prices.{sum_of}
-use Rattle.least_laws.specs.LeastIn.{least_in}
+use Rattle.least_laws.specs.LeastFromChildren.{least_in}
 use Rattle.contract_join.specs.declared.front_sum.Run.{Run}
 use Rattle.contract_join.specs.declared.front_sum.FrontSum.{FrontSum}
 use Rattle.contract_join.specs.FrontSum.{together, count_of, NeedWithin, CostWithin, KeepsSum, in_one}

@@ -11,7 +11,7 @@ use Rattle.pareto_front.specs.Front.{IsFront, cheapest}
 use Rattle.duct_definitions.specs.declared.limits.TheConstants.{MAX_PRICE}
 use Rattle.duct_definitions.specs.Tree.{section_count}
 use Rattle.duct_definitions.specs.Network.{Network, columns, cap}
-use Rattle.least_laws.specs.LeastIn.{IsExact}
+use Rattle.least_laws.specs.LeastFromChildren.{IsExact}
 
 -- a section of a network, and its fronts beside the sizes of its neighbour
 pub record SectionData : Type 0 where

@@ -1,7 +1,7 @@
 //! The fronts of a section, from the sums of its children's fronts.
 ghost use Rattle.std.specs.Prelude.{◌≡◌, ℕ, ◌<◌, ◌≤◌, IfOk};
 ghost use Rattle.duct_definitions.specs.Network.{columns, cap};
-ghost use Rattle.least_laws.specs.LeastIn.{least_in};
+ghost use Rattle.least_laws.specs.LeastFromChildren.{least_in};
 ghost use Rattle.contract_join.specs.SectionFronts.{AreExact};
 ghost use Rattle.contract_join.specs.Join.{AreSums};
 ghost use Rattle.contract_join.specs.Scratch.{least_in_scratch, IsClear, IsUpTo};

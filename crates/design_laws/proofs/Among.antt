@@ -9,7 +9,8 @@ abbrev pub Among : {X : Type 0} → X → List X → Type 0
 Among x [] = ⊥
 Among x (y ∷ ys) = (x ≡ y) ⊎ Among x ys
 
-pub Among-filter : {X : Type 0} (test : X → Bool) (x : X) (xs : List X) → Among x xs → test x ≡ true → Among x (filter test xs)
+pub Among-filter : {X : Type 0} (test : X → Bool) (x : X) (xs : List X) → Among x xs → test x ≡ true
+    → Among x (filter test xs)
 Among-filter test x [] among passes = among
 Among-filter {X} test x (y ∷ ys) (inl same) passes =
     rw (subst (λ (z : X). test z ≡ true) same passes) (inl same)
@@ -55,7 +56,7 @@ among-list_any s (y ∷ ys) any =
     ]
 
 -- a greatest value is at least the first, and at least each
-start-le-max : (f : ℕ → ℕ) (a : ℕ) (xs : List ℕ) → a ≤ fold max a (map f xs)
+pub start-le-max : {X : Type 0} (f : X → ℕ) (a : ℕ) (xs : List X) → a ≤ fold max a (map f xs)
 start-le-max f a [] = omega arith
 start-le-max f a (x ∷ xs) = let more = start-le-max f (max a (f x)) xs in omega arith
 
@@ -80,7 +81,8 @@ least_of-reached f x (y ∷ z ∷ zs) among =
     let (w, (within, is)) = least_of-reached f z (z ∷ zs) (inl refl) in
     elim (cases_lt (f y) (f w)) [ inl less ↦ (y, (inl refl, omega arith)) | inr most ↦ (w, (inr within, omega arith)) ]
 
-pub list_all-among : {X : Type 0} (test : X → Bool) (x : X) (xs : List X) → list_all test xs ≡ true → Among x xs → test x ≡ true
+pub list_all-among : {X : Type 0} (test : X → Bool) (x : X) (xs : List X) → list_all test xs ≡ true → Among x xs
+    → test x ≡ true
 list_all-among test x [] all among = absurd among
 list_all-among {X} test x (y ∷ ys) all (inl same) =
     subst (λ (z : X). test z ≡ true) (sym same) (and_parts (test y) (list_all test ys) all).0

@@ -45,8 +45,10 @@ Fits-tested net d passed =
       fan = ltb-true d.fan (length net.fans) fan;
       back = has_back-holds net d.back back;
       sizes = eqb-true (length d.sizes) (section_count net.tree) sizes;
-      each = λ s within. ltb-true (slice_index d.sizes s) (size_count net s)
-          (all_below-holds (section_count net.tree) (λ t. nat_lt (slice_index d.sizes t) (size_count net t)) each s within);
+      each = λ s within.
+          let test : ℕ → Bool = λ t. nat_lt (slice_index d.sizes t) (size_count net t) in
+          ltb-true (slice_index d.sizes s) (size_count net s)
+          (all_below-holds (section_count net.tree) test each s within);
     }
 
 fits-from : (net : Network) (d : Design) → Fits net d → fits net d ≡ true
@@ -131,7 +133,8 @@ LessOr-tested m n after Then holds passed =
 Earlier-tested : (xs ys : List ℕ) → is_earlier xs ys ≡ true → Earlier xs ys
 Earlier-tested [] ys passed = absurd (both_ways false refl passed)
 Earlier-tested (x ∷ xs) [] passed = absurd (both_ways false refl passed)
-Earlier-tested (x ∷ xs) (y ∷ ys) passed = LessOr-tested x y (is_earlier xs ys) (Earlier xs ys) (Earlier-tested xs ys) passed
+Earlier-tested (x ∷ xs) (y ∷ ys) passed =
+    LessOr-tested x y (is_earlier xs ys) (Earlier xs ys) (Earlier-tested xs ys) passed
 
 Before-tested : (net : Network) (d e : Design) → is_before net d e ≡ true → Before net d e
 Before-tested net d e =

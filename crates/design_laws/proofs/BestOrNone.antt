@@ -36,7 +36,10 @@ IsFirst-more net d b ds meets so_far =
         b,
         record {
           meets = so_far.meets;
-          first = λ e among meets_too. elim among [ inl here ↦ inl (here ∙ sym same) | inr later ↦ so_far.first e later meets_too ];
+          first = λ e among meets_too. elim among [
+            | inl here ↦ inl (here ∙ sym same)
+            | inr later ↦ so_far.first e later meets_too
+          ];
         },
       )
       | inr apart ↦ elim apart [
@@ -77,7 +80,10 @@ first_or_none net (d ∷ ds) =
           d,
           record {
             meets = meets;
-            first = λ e among meets_too. elim among [ inl here ↦ inl here | inr later ↦ absurd (none e later meets_too) ];
+            first = λ e among meets_too. elim among [
+              | inl here ↦ inl here
+              | inr later ↦ absurd (none e later meets_too)
+            ];
           },
         )
       ]

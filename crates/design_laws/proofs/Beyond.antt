@@ -9,7 +9,8 @@ use Rattle.duct_definitions.specs.Dampers.{leaves_beyond}
 use Rattle.duct_definitions.proofs.TreeLaws.{earlier}
 use Rattle.design_laws.proofs.Among.{Among, Among-filter, Among-filtered, Among-range, list_any-among, among-list_any}
 use Rattle.duct_definitions.proofs.WayLaws.{way-beside}
-use Rattle.design_laws.proofs.Ways.{same_side-same, same_side-true, neighbour_side, along_way}
+use Rattle.design_laws.proofs.Ways.{neighbour_side, along_way}
+use Rattle.duct_units.proofs.SideLaws.{same_side-same, same_side-true}
 
 among_sections : (t : Tree) (s : ℕ) → s < section_count t → Among s (sections t)
 among_sections t s within = Among-range 0 (section_count t) s (omega arith) (omega arith)
@@ -19,7 +20,9 @@ stays : (t : Tree) (leaf s : ℕ) → IsTree t → leaf < section_count t → Am
     → (s < section_count t) × (side t s ≡ side t leaf)
 stays t leaf s tree within among =
     along_way t tree (λ y. (y < section_count t) × (side t y ≡ side t leaf))
-    (λ y n inside is same. let before = earlier t y n tree inside is in (omega arith, neighbour_side t y n tree inside is ∙ same.1))
+    (λ y n inside is same.
+    let before = earlier t y n tree inside is in
+    (omega arith, neighbour_side t y n tree inside is ∙ same.1))
     (suc leaf) leaf (omega arith) within (within, refl) s among
 
 -- the neighbour of a section on the way is on the way
@@ -48,7 +51,8 @@ alone_on_way t leaf x tree is within among =
       | inr child ↦
           let (c, (inside, next)) = child in
           let among_children : Among c (children t leaf) =
-          Among-filter (λ y. is_number leaf (neighbour t y)) c (sections t) (among_sections t c inside) (rw next (eq-eqb leaf leaf refl)) in
+          Among-filter (λ y. is_number leaf (neighbour t y)) c (sections t) (among_sections t c inside)
+          (rw next (eq-eqb leaf leaf refl)) in
           absurd (no_item c (children t leaf) among_children (eqb-true _ _ (and_parts _ _ is).1))
     ]
 
@@ -77,7 +81,11 @@ IsBeyond-from t s leaf among =
     let found = Among-filtered (passes t s) leaf (leaves t (side t s)) among in
     let passing = Among-filtered (λ y. same_side (side t y) (side t s) && is_leaf t y) leaf (sections t) found.0 in
     let (same, is) = and_parts (same_side (side t leaf) (side t s)) (is_leaf t leaf) passing.1 in
-    record { is = is; same = same_side-true (side t leaf) (side t s) same; passed = among-list_any s (way t leaf) found.1 }
+    record {
+      is = is;
+      same = same_side-true (side t leaf) (side t s) same;
+      passed = among-list_any s (way t leaf) found.1;
+    }
 
 -- a section on a leaf's way has the leaf beyond it
 pub IsBeyond-way : (t : Tree) (s leaf : ℕ) → IsTree t → is_leaf t leaf ≡ true → Among s (way t leaf) → IsBeyond t s leaf

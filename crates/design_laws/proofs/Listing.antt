@@ -44,7 +44,8 @@ Among-choices [] (k ∷ ks) same within = absurd (omega arith)
 Among-choices (bound ∷ bounds) [] same within = absurd (omega arith)
 Among-choices (bound ∷ bounds) (k ∷ ks) same within =
     let first : k < bound = within 0 (omega arith) in
-    let rest : (i : ℕ) → i < length bounds → slice_index ks i < slice_index bounds i = λ i below. within (suc i) (omega arith) in
+    let rest : (i : ℕ) → i < length bounds → slice_index ks i < slice_index bounds i =
+    λ i below. within (suc i) (omega arith) in
     Among-flat_map (λ m. map (λ others. m ∷ others) (choices bounds)) (k ∷ ks) k (range_with_len 0 bound)
     (Among-range 0 bound k (omega arith) (omega arith))
     (Among-map (λ others. k ∷ others) ks (choices bounds) (Among-choices bounds ks (omega arith) rest))
@@ -53,7 +54,8 @@ pub Among-designs : (net : Network) (d : Design) → Fits net d → Among d (des
 Among-designs net d fits =
     let count : length (size_counts net) ≡ section_count net.tree =
     length-map-range_with_len (size_count net) 0 (section_count net.tree) in
-    let each : (s : ℕ) → s < length (size_counts net) → slice_index d.sizes s < slice_index (size_counts net) s = λ s within.
+    let each : (s : ℕ) → s < length (size_counts net) → slice_index d.sizes s < slice_index (size_counts net) s =
+    λ s within.
     let at : slice_index (size_counts net) s ≡ size_count net s =
     get_or-map-range_with_len (size_count net) 0 (section_count net.tree) s s 0 (omega arith) (omega arith) in
     let below : slice_index d.sizes s < size_count net s = fits.each s (omega arith) in

@@ -67,10 +67,12 @@ sum_by-damper net d leaf tree is (suc k) s small within among =
           ∙ both_parts (slack net d s) 0 (damper net d s) 0 (omega arith) whole refl
       | Some n ↦ λ next.
           let before = earlier net.tree s n tree within next in
-          let part : damper net d s ≡ slack net d s - slack net d n = ap (λ o. slack net d s - slack_beside net d o) next in
+          let part : damper net d s ≡ slack net d s - slack net d n =
+          ap (λ o. slack net d s - slack_beside net d o) next in
           let rest = sum_by-damper net d leaf tree is k n (omega arith) (omega arith)
           (goes_on net.tree leaf s n tree (is_within net.tree leaf is) among next) in
-          ap (sum_by (damper net d)) (way-beside net.tree s n tree within next) ∙ sum_by-cons (damper net d) s (way net.tree n)
+          ap (sum_by (damper net d)) (way-beside net.tree s n tree within next)
+          ∙ sum_by-cons (damper net d) s (way net.tree n)
           ∙ both_parts (slack net d s) (slack net d n) (damper net d s) (sum_by (damper net d) (way net.tree n))
           (slack_falls net d leaf s n tree is among within next) part rest
     ] refl

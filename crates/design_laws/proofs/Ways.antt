@@ -1,28 +1,16 @@
 -- The way of a section to the fan: it goes on by the neighbour, stays on one side, and a leaf is only at its start.
-use Rattle.std.proofs.Common.{◌≡◌, ℕ, zero, suc, ◌+◌, ◌<◌, inl, inr, List, [], ◌∷◌, true, false, Some, None, refl, sym, subst, arith}
-use Rattle.std.proofs.lemmas.Bool.{both_ways}
+use Rattle.std.proofs.Common.{◌≡◌, ℕ, zero, suc, ◌+◌, ◌<◌, inl, inr, List, [], ◌∷◌, Some, None, refl, sym, subst, arith}
 use Rattle.duct_units.specs.declared.fault.Reason.TheVariants.{NotBefore, OtherSide}
-use Rattle.duct_units.specs.declared.side.Side.{Side}
-use Rattle.duct_units.specs.declared.side.Side.TheVariants.{Supply, Return}
 use Rattle.duct_units.specs.Rules.{Rule, first_broken, at_section}
 use Rattle.duct_units.proofs.RuleLaws.{rule_holds}
 use Rattle.duct_definitions.specs.Tree.{Tree, IsTree, section_count, neighbour, side, way, is_before, is_on_side}
-use Rattle.duct_units.specs.Side.{same_side}
+use Rattle.duct_units.proofs.SideLaws.{same_side-true}
 use Rattle.duct_definitions.proofs.TreeLaws.{rules_hold, earlier}
 use Rattle.duct_definitions.proofs.WayLaws.{way-at_fan, way-beside}
 use Rattle.design_laws.proofs.Among.{Among}
 
-pub same_side-true : (x y : Side) → same_side x y ≡ true → x ≡ y
-same_side-true Supply Supply is = refl
-same_side-true Return Return is = refl
-same_side-true Supply Return is = absurd (both_ways false refl is)
-same_side-true Return Supply is = absurd (both_ways false refl is)
-
-pub same_side-same : (x : Side) → same_side x x ≡ true
-same_side-same Supply = refl
-same_side-same Return = refl
-
-pub neighbour_side : (t : Tree) (s n : ℕ) → IsTree t → s < section_count t → neighbour t s ≡ Some n → side t n ≡ side t s
+pub neighbour_side : (t : Tree) (s n : ℕ) → IsTree t → s < section_count t → neighbour t s ≡ Some n
+    → side t n ≡ side t s
 neighbour_side t s n tree within is =
     let same : List Rule = at_section (s + 1) (is_on_side t (side t s) (neighbour t s)) OtherSide ∷ [] in
     let rest = (rule_holds (is_before s (neighbour t s)) (first_broken same)

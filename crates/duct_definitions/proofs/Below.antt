@@ -19,4 +19,5 @@ all_below-holds (suc n) test all k within =
 pub all_below-from : (n : ℕ) (test : ℕ → Bool) → ((k : ℕ) → k < n → IsTrue (test k)) → all_below n test ≡ true
 all_below-from zero test each = refl
 all_below-from (suc n) test each =
-    and_from (test n) (all_below n test) (each n (omega arith)) (all_below-from n test (λ k within. each k (omega arith)))
+    and_from (test n) (all_below n test) (each n (omega arith))
+    (all_below-from n test (λ k within. each k (omega arith)))

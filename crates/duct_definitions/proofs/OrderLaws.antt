@@ -23,13 +23,17 @@ less_or_once m n Then Back once (inr same) (inr again) = once same.1 again.1
 -- of two designs only one comes before the other
 pub before_once : (net : Network) (d e : Design) → Before net d e → Before net e d → ⊥
 before_once net d e =
-    less_or_once _ _ _ _ (less_or_once _ _ _ _ (less_or_once _ _ _ _ (less_or_once _ _ _ _ (earlier_once d.sizes e.sizes))))
+    less_or_once _ _ _ _ (less_or_once _ _ _ _ (less_or_once _ _ _ _ (less_or_once _ _ _ _
+    (earlier_once d.sizes e.sizes))))
 
 pub best_is_one : (net : Network) (d e : Design) → IsBest net d → IsBest net e → d ≡ e
 best_is_one net d e best other =
     elim (best.first e other.meets) [
       | inl same ↦ sym same
-      | inr before ↦ elim (other.first d best.meets) [ inl same ↦ same | inr after ↦ absurd (before_once net d e before after) ]
+      | inr before ↦ elim (other.first d best.meets) [
+        | inl same ↦ same
+        | inr after ↦ absurd (before_once net d e before after)
+      ]
     ]
 
 -- two return fans, or none, that have one turn are the same

@@ -39,22 +39,27 @@ chosen_below test n =
 pub chosen_pass : (test : ℕ → Bool) (n : ℕ) → All (λ s. IsTrue (test s)) (filter test (range_with_len 0 n))
 chosen_pass test n = filter_passes test (range_with_len 0 n)
 
-range-push : (a n : ℕ) → range_with_len a (suc n) ≡ range_with_len a n ++ (a + n) ∷ []
+pub range-push : (a n : ℕ) → range_with_len a (suc n) ≡ range_with_len a n ++ (a + n) ∷ []
 range-push a zero = ap (λ m. m ∷ []) (omega arith)
 range-push a (suc n) =
     ap (λ xs. a ∷ xs) (range-push (a + 1) n)
     ∙ ap (λ m. a ∷ (range_with_len (a + 1) n ++ m ∷ [])) (omega arith)
 
 -- one more number
+pub chosen-suc : (test : ℕ → Bool) (n : ℕ)
+    → filter test (range_with_len 0 (suc n)) ≡ filter test (range_with_len 0 n) ++ cond (test n) (n ∷ []) []
+chosen-suc test n =
+    let last : 0 + n ≡ n = omega arith in
+    ap (filter test) (range-push 0 n)
+    ∙ filter-append test (range_with_len 0 n) ((0 + n) ∷ [])
+    ∙ ap (λ m. filter test (range_with_len 0 n) ++ cond (test m) (m ∷ []) []) last
+
+-- the same as a loop counts it
 pub chosen-push : (test : ℕ → Bool) (n : ℕ)
     → filter test (range_with_len 0 (n + 1)) ≡ filter test (range_with_len 0 n) ++ cond (test n) (n ∷ []) []
 chosen-push test n =
     let more : n + 1 ≡ suc n = omega arith in
-    let last : 0 + n ≡ n = omega arith in
-    ap (λ m. filter test (range_with_len 0 m)) more
-    ∙ ap (filter test) (range-push 0 n)
-    ∙ filter-append test (range_with_len 0 n) ((0 + n) ∷ [])
-    ∙ ap (λ m. filter test (range_with_len 0 n) ++ cond (test m) (m ∷ []) []) last
+    ap (λ m. filter test (range_with_len 0 m)) more ∙ chosen-suc test n
 
 -- the number of the neighbour
 pub is_number-some : (s : ℕ) (o : Option ℕ) → is_number s o ≡ true → o ≡ Some s
@@ -74,12 +79,13 @@ children_later t s tree k d within =
 times-before : (test : ℕ → Bool) (c a n : ℕ) → c < a → count_by (λ x. x == c) (filter test (range_with_len a n)) ≡ 0
 times-before test c a zero before = refl
 times-before test c a (suc n) before =
+    let later : List ℕ = filter test (range_with_len (a + 1) n) in
     let rest = times-before test c (a + 1) n (omega arith) in
     let other : (a == c) ≡ false = ne_eqb a c (omega arith) in
-    elim (test a) as (λ b. count_by (λ x. x == c) (cond b (a ∷ filter test (range_with_len (a + 1) n)) (filter test (range_with_len (a + 1) n))) ≡ 0) [
+    elim (test a) as (λ b. count_by (λ x. x == c) (cond b (a ∷ later) later) ≡ 0) [
       | true ↦
-          sum_by-cons (λ x. cond (x == c) 1 0) a (filter test (range_with_len (a + 1) n))
-          ∙ ap (λ b. cond b 1 0 + count_by (λ x. x == c) (filter test (range_with_len (a + 1) n))) other
+          sum_by-cons (λ x. cond (x == c) 1 0) a later
+          ∙ ap (λ b. cond b 1 0 + count_by (λ x. x == c) later) other
           ∙ omega arith
       | false ↦ rest
     ]
@@ -122,14 +128,16 @@ child_once t s c within =
 
 filter-filter : {X : Type 0} (p q : X → Bool) (xs : List X) → filter p (filter q xs) ≡ filter (λ x. p x && q x) xs
 filter-filter p q [] = refl
-filter-filter p q (x ∷ xs) =
+filter-filter {X} p q (x ∷ xs) =
     let rest = filter-filter p q xs in
-    elim (q x) as (λ b. filter p (cond b (x ∷ filter q xs) (filter q xs)) ≡ cond (p x && b) (x ∷ filter (λ y. p y && q y) xs) (filter (λ y. p y && q y) xs)) [
-      | true ↦ elim (p x) as (λ b. cond b (x ∷ filter p (filter q xs)) (filter p (filter q xs)) ≡ cond (b && true) (x ∷ filter (λ y. p y && q y) xs) (filter (λ y. p y && q y) xs)) [
+    let once : List X = filter q xs in
+    let both : List X = filter (λ y. p y && q y) xs in
+    elim (q x) as (λ b. filter p (cond b (x ∷ once) once) ≡ cond (p x && b) (x ∷ both) both) [
+      | true ↦ elim (p x) as (λ b. cond b (x ∷ filter p once) (filter p once) ≡ cond (b && true) (x ∷ both) both) [
         | true ↦ ap (λ ys. x ∷ ys) rest
         | false ↦ rest
       ]
-      | false ↦ elim (p x) as (λ b. filter p (filter q xs) ≡ cond (b && false) (x ∷ filter (λ y. p y && q y) xs) (filter (λ y. p y && q y) xs)) [
+      | false ↦ elim (p x) as (λ b. filter p once ≡ cond (b && false) (x ∷ both) both) [
         | true ↦ rest
         | false ↦ rest
       ]

@@ -6,7 +6,6 @@ use Rattle.std.proofs.lemmas.List.Elements.{All-nil, All-cons}
 use Rattle.std.specs.Prelude.{◌&&◌, ◌==◌, ◌*◌, nat_le, nat_eq, is_none, Option, Some, None, slice_get, All}
 use Rattle.std.specs.List.{list_all}
 use Rattle.std.specs.Cmp.Lexicographic.{pointwise}
-use Rattle.duct_units.specs.declared.fault.Fault.{Fault}
 use Rattle.duct_units.specs.Name.{is_name}
 use Rattle.duct_units.specs.Rules.{first_broken}
 use Rattle.duct_definitions.specs.declared.design.Pair.{Pair}
@@ -111,9 +110,9 @@ IsSection-tested net s passed =
 abbrev pub is_tree : Tree → Bool
 is_tree t = length t.sides == length t.neighbours && is_none (first_broken (tree_rules t))
 
-none_tested : (fault : Option Fault) → is_none fault ≡ true → fault ≡ None
+pub none_tested : {X : Type 0} (o : Option X) → is_none o ≡ true → o ≡ None
 none_tested None passed = refl
-none_tested (Some fault) passed = absurd (both_ways false refl passed)
+none_tested (Some x) passed = absurd (both_ways false refl passed)
 
 IsTree-tested : (t : Tree) → is_tree t ≡ true → IsTree t
 IsTree-tested t passed =
@@ -153,7 +152,8 @@ IsNetwork-tested net passed =
       name_count = eqb-true (length net.names) (section_count net.tree) name_count;
       size_lists = eqb-true (length net.sizes) (section_count net.tree) size_lists;
       pair_lists = eqb-true (length net.pairs) (section_count net.tree) pair_lists;
-      sections = λ s within. IsSection-tested net s (all_below-holds (section_count net.tree) (is_section net) sections s within);
+      sections = λ s within.
+          IsSection-tested net s (all_below-holds (section_count net.tree) (is_section net) sections s within);
       fans = AreFans-tested net.fans fans;
       return_fans = AreFans-tested net.return_fans return_fans;
     }

@@ -3,7 +3,7 @@ use Rattle.std.proofs.Common.{◌≡◌, ℕ, zero, suc, ◌<◌, ◌≤◌, [],
 use Rattle.duct_definitions.specs.Tree.{Tree, IsTree, section_count, neighbour, from_neighbour, way_within, way}
 use Rattle.duct_definitions.proofs.TreeLaws.{earlier}
 
--- more room than a way needs does not change it
+-- a bound greater than a way needs does not change it
 way_within-same : (t : Tree) → IsTree t → (j k s : ℕ) → s < j → s < k → s < section_count t
     → way_within j t s ≡ way_within k t s
 way_within-same t tree zero k s small less within = absurd (omega arith)
@@ -27,7 +27,8 @@ way-beside t s n tree within is =
     ∙ ap (λ rest. s ∷ rest) (way_within-same t tree s (suc n) n before (omega arith) (omega arith))
 
 -- the first section, and the way from its neighbour on
-pub way-first : (t : Tree) (s : ℕ) → IsTree t → s < section_count t → way t s ≡ s ∷ from_neighbour (way t) (neighbour t s)
+pub way-first : (t : Tree) (s : ℕ) → IsTree t → s < section_count t
+    → way t s ≡ s ∷ from_neighbour (way t) (neighbour t s)
 way-first t s tree within =
     elim (neighbour t s) as (λ o. neighbour t s ≡ o → way t s ≡ s ∷ from_neighbour (way t) o) [
       | None ↦ λ is. way-at_fan t s is

@@ -1,4 +1,4 @@
--- Heads and dampers: what each side has of the fans' pressures, and what is throttled so that every path takes its head.
+-- Heads and dampers: what each side has of the fans' pressures, and what is throttled so that each path takes its head.
 use Rattle.std.specs.Prelude.{ℕ, ◌-◌, min, List, [], ◌∷◌, map, filter, Option, Some, None}
 use Rattle.duct_units.specs.declared.side.Side.{Side}
 use Rattle.duct_units.specs.declared.side.Side.TheVariants.{Supply, Return}

@@ -1,4 +1,5 @@
 pub mod NameForm
+pub mod SideLaws
 pub mod RuleLaws
 pub mod Spelling
 pub mod WholeLaws

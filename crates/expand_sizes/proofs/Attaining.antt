@@ -5,7 +5,7 @@ use Rattle.std.specs.Option.{option_eq}
 use Rattle.std.proofs.lemmas.Bool.{eqb-true, eq-eqb}
 use Rattle.duct_definitions.specs.Network.{Network, size_count, columns, cap}
 use Rattle.least_laws.specs.Least.{IsLeast}
-use Rattle.least_laws.specs.LeastIn.{least_with, least_in}
+use Rattle.least_laws.specs.LeastFromChildren.{least_with, least_in}
 use Rattle.least_laws.specs.Choosing.{Attains}
 use Rattle.least_laws.proofs.Attained.{size_attains}
 use Rattle.contract_join.specs.SectionFronts.{SectionData, AreFrontsOf}

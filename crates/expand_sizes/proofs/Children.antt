@@ -10,9 +10,9 @@ use Rattle.duct_definitions.proofs.TreeLaws.{few_sections}
 use Rattle.duct_definitions.proofs.SectionLists.{chosen_below, chosen_pass, is_number-some}
 use Rattle.duct_units.specs.Prices.{both_of}
 use Rattle.least_laws.specs.Prices.{sum_of}
-use Rattle.least_laws.specs.LeastIn.{least_in}
+use Rattle.least_laws.specs.LeastFromChildren.{least_in}
 use Rattle.least_laws.proofs.DuctsOf.{columns-child}
-use Rattle.least_laws.proofs.Loops.{sum_of-take_get_or}
+use Rattle.least_laws.proofs.SumOf.{sum_of-take_get_or}
 use Rattle.least_laws.specs.Least.{IsLeast}
 use Rattle.contract_join.specs.SectionFronts.{SectionData, AreFrontsOf, most_beyond}
 use Rattle.expand_sizes.proofs.Entries.{entry-beside, entry-within, entry-least, entry-bound}

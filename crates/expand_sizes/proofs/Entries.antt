@@ -5,7 +5,7 @@ use Rattle.std.proofs.lemmas.Option.{slice_get_read}
 use Rattle.duct_definitions.specs.Tree.{IsTree, section_count}
 use Rattle.duct_definitions.specs.Network.{Network, columns, cap}
 use Rattle.least_laws.specs.Least.{IsLeast}
-use Rattle.least_laws.specs.LeastIn.{least_in}
+use Rattle.least_laws.specs.LeastFromChildren.{least_in}
 use Rattle.least_laws.proofs.Leasts.{least_in-unique}
 use Rattle.contract_join.specs.SectionFronts.{SectionData, AreFrontsOf, most_beyond}
 

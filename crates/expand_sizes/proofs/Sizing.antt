@@ -9,7 +9,7 @@ use Rattle.duct_definitions.specs.Tree.{IsTree, section_count, neighbour, at_nei
 use Rattle.duct_definitions.specs.Network.{Network, columns, columns_beside, pair_at, cap}
 use Rattle.duct_definitions.specs.Designs.{loss_of}
 use Rattle.duct_definitions.proofs.TreeLaws.{earlier, neighbour_earlier}
-use Rattle.least_laws.specs.LeastIn.{least_in}
+use Rattle.least_laws.specs.LeastFromChildren.{least_in}
 use Rattle.least_laws.specs.Choosing.{Attains}
 use Rattle.least_laws.proofs.Attained.{root_there, child_there}
 use Rattle.least_laws.proofs.DuctsOf.{columns-child}

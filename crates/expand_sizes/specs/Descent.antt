@@ -4,7 +4,7 @@
 use Rattle.std.specs.Prelude.{ℕ, ◌<◌, ◌≤◌, List, Option, Some, None, slice_index, IsSome}
 use Rattle.duct_definitions.specs.Tree.{IsTree, section_count}
 use Rattle.duct_definitions.specs.Network.{Network, columns, cap}
-use Rattle.least_laws.specs.LeastIn.{least_in}
+use Rattle.least_laws.specs.LeastFromChildren.{least_in}
 
 -- what is left beyond the neighbour, and at the fan the side's budget
 abbrev pub left_towards : ℕ → List ℕ → Option ℕ → ℕ

@@ -5,7 +5,7 @@ ghost use Rattle.duct_definitions.specs.Tree.{section_count, children};
 ghost use Rattle.duct_definitions.specs.Network.{size_count, columns, pair_at, cap};
 ghost use Rattle.duct_definitions.specs.Designs.{loss_of};
 ghost use Rattle.least_laws.specs.Prices.{sum_of};
-ghost use Rattle.least_laws.specs.LeastIn.{least_in, least_with};
+ghost use Rattle.least_laws.specs.LeastFromChildren.{least_in, least_with};
 ghost use Rattle.least_laws.specs.Choosing.{Attains};
 ghost use Rattle.contract_join.specs.SectionFronts.{AreFrontsOf};
 ghost use Rattle.expand_sizes.specs.Descent.{CanBeSized};

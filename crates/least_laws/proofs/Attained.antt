@@ -9,21 +9,15 @@ use Rattle.duct_units.specs.Side.{same_side}
 use Rattle.duct_definitions.specs.Network.{Network, size_count, columns, pair_at}
 use Rattle.duct_definitions.specs.Designs.{loss_of}
 use Rattle.design_laws.proofs.Among.{Among, Among-filter, Among-range}
-use Rattle.design_laws.proofs.Ways.{same_side-same}
-use Rattle.duct_units.specs.Prices.{both_of}
+use Rattle.duct_units.proofs.SideLaws.{same_side-same}
 use Rattle.least_laws.specs.Prices.{sum_of}
-use Rattle.least_laws.specs.LeastIn.{least_with, least_in}
+use Rattle.least_laws.specs.LeastFromChildren.{least_with, least_in}
 use Rattle.least_laws.specs.Choosing.{side_least, Attains}
 use Rattle.least_laws.proofs.LeastBelow.{least_below-some}
 use Rattle.least_laws.proofs.WithPair.{made}
 use Rattle.least_laws.proofs.TreePlaces.{neighbour-within}
 use Rattle.least_laws.proofs.Leasts.{least_in-step}
-use Rattle.least_laws.proofs.Taken.{some-value}
-
-both_of-there : (x y : Option ℕ) → IsSome (both_of x y) → IsSome x × IsSome y
-both_of-there None y some = absurd (cc some)
-both_of-there (Some x) None some = absurd (cc some)
-both_of-there (Some x) (Some y) some = (refl, refl)
+use Rattle.least_laws.proofs.PriceLaws.{some-there, both_of-there}
 
 -- where a sum is there, each of its prices is
 pub sum_of-there : (price : ℕ → Option ℕ) (x : ℕ) (xs : List ℕ) → IsSome (sum_of price xs) → Among x xs
@@ -52,14 +46,14 @@ module _ (net : Network) (tree : IsTree net.tree) where
   pub size_attains : (s g budget : ℕ) → s < section_count net.tree → g < columns net s
       → IsSome (least_in net s g budget) → (k : ℕ) × Attains net s g budget k
   size_attains s g budget within beside there =
-      let some = some-value (least_in net s g budget) there in
+      let some = some-there (least_in net s g budget) there in
       let least = least_below-some (least_with net (least_in net) s g budget) (size_count net s) some.0
       (sym (least_in-step net tree s g budget within beside) ∙ some.1) in
       (least.at, record { in_range = least.below; there = there; equal = least.is ∙ sym some.1 })
 
   pub loss_within : (s g budget k : ℕ) → Attains net s g budget k → loss_of (pair_at net s k g) ≤ budget
   loss_within s g budget k attains =
-      let some = some-value (least_in net s g budget) attains.there in
+      let some = some-there (least_in net s g budget) attains.there in
       let parts = made (pair_at net s k g) budget some.0 _ (attains.equal ∙ some.1) in
       let lost : loss_of (pair_at net s k g) ≡ parts.p.loss = ap loss_of parts.pair in
       let fits = parts.fits in
@@ -68,7 +62,7 @@ module _ (net : Network) (tree : IsTree net.tree) where
   pub child_there : (s g budget k c : ℕ) → Attains net s g budget k → neighbour net.tree c ≡ Some s
       → IsSome (least_in net c k (budget - loss_of (pair_at net s k g)))
   child_there s g budget k c attains child =
-      let some = some-value (least_in net s g budget) attains.there in
+      let some = some-there (least_in net s g budget) attains.there in
       let parts = made (pair_at net s k g) budget some.0
       (λ rest. sum_of (λ c. least_in net c k rest) (children net.tree s)) (attains.equal ∙ some.1) in
       let lost : loss_of (pair_at net s k g) ≡ parts.p.loss = ap loss_of parts.pair in

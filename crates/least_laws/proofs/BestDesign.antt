@@ -1,5 +1,6 @@
 -- The design taken from the fan outwards, with the chosen fans and supply budget, is the best.
 use Rattle.std.proofs.Common.{◌≡◌, ℕ, ◌+◌, ◌≤◌, ◌⊎◌, inl, inr, arith, ap, sym, ◌∙◌, subst, Some}
+use Rattle.std.proofs.lemmas.Option.{same_Some}
 use Rattle.std.proofs.lemmas.Bool.Decides.{leb_tells}
 use Rattle.duct_units.specs.declared.side.Side.{Side}
 use Rattle.duct_units.specs.declared.side.Side.TheVariants.{Supply, Return}
@@ -11,17 +12,16 @@ use Rattle.duct_definitions.specs.Order.{Earlier, turn_of, Before, IsBest}
 use Rattle.duct_definitions.proofs.OrderLaws.{turn_of-inj}
 use Rattle.design_laws.proofs.TotalOrder.{same_design}
 use Rattle.tree_sums.specs.Route.{Fan}
-use Rattle.least_laws.specs.LeastIn.{least_in}
+use Rattle.least_laws.specs.LeastFromChildren.{least_in}
 use Rattle.least_laws.specs.Choosing.{side_least, budget_of, IsOffered, IsChosen, IsDescent}
 use Rattle.least_laws.proofs.Ducts.{IsSizing}
-use Rattle.least_laws.proofs.LeastBelow.{some-same}
 use Rattle.least_laws.proofs.Side.{side-tight}
 use Rattle.least_laws.proofs.Descent.{IsBestSizing, descent-first}
 use Rattle.least_laws.proofs.TreePlaces.{next_in-falls}
 use Rattle.least_laws.proofs.DuctsOf.{ducts_of}
 use Rattle.least_laws.proofs.SideLeast.{side_sum-least, least_in-sums, least_in-roots}
 use Rattle.least_laws.proofs.DesignSizes.{sizes_in, cost-sides, sizing-from_meets}
-use Rattle.least_laws.proofs.Taken.{left_over, left_over-is, descent-left, descent-first_sizes}
+use Rattle.least_laws.proofs.DescentSizes.{left_over, left_over-is, descent-left, descent-first_sizes}
 use Rattle.least_laws.proofs.Comparing.{le_then, Earlier-from}
 use Rattle.least_laws.proofs.CostBound.{side_price, least_cost, both_sides, side_least-bound, covers-budgets, cost_bound, offered}
 use Rattle.least_laws.proofs.DescentMeets.{side_least-is, worst-budget, descent_meets, descent_cost}
@@ -73,7 +73,8 @@ module _ (net : Network) (tree : IsTree net.tree) (d : Design) (supply price : �
         elim (leb_tells d.fan e.fan) [
           | inl less ↦ less.1
           | inr more ↦
-              absurd (chosen.first_fan e.fan e.back (worst net e Supply) more.1 (offered net tree e meets) (other_price equal))
+              absurd (chosen.first_fan e.fan e.back (worst net e Supply) more.1 (offered net tree e meets)
+              (other_price equal))
         ]
 
     turn_le : cost net d ≡ cost net e → d.fan ≡ e.fan → turn_of d.back ≤ turn_of e.back
@@ -120,7 +121,7 @@ module _ (net : Network) (tree : IsTree net.tree) (d : Design) (supply price : �
       other_ge x =
           let bound = side_least-bound net tree e x (budget_of net d.fan d.back supply x) (other_sizing x) in
           let most = bound.2 in
-          let same = some-same _ _ (sym bound.1 ∙ least_is x) in
+          let same = same_Some _ _ (sym bound.1 ∙ least_is x) in
           omega arith
 
       other_le : (x : Side) → side_price net e x ≤ side_price net d x

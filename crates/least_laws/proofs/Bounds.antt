@@ -1,10 +1,10 @@
 -- The least doesn't rise with the budget, and is at most the greatest price for each section.
-use Rattle.std.proofs.Common.{◌≡◌, ℕ, ◌+◌, ◌*◌, ◌<◌, ◌≤◌, true, false, refl, arith, subst, cond, Option, Some, None, List, [], ◌∷◌, length}
+use Rattle.std.proofs.Common.{◌≡◌, ℕ, ◌+◌, ◌*◌, ◌<◌, ◌≤◌, refl, arith, subst, Option, Some, None, List, length}
 use Rattle.std.proofs.lemmas.List.FromFn.{length-range_with_len}
-use Rattle.std.proofs.lemmas.List.Sums.{sum_by-le}
+use Rattle.std.proofs.lemmas.List.Sums.{sum_by-le, length-filter, count_by-le-length}
 use Rattle.std.proofs.lemmas.Option.{slice_get_within, get_or_from_slice_get}
 use Rattle.std.proofs.Math.Nat.{mul-le-mul_right}
-use Rattle.std.specs.Prelude.{All, IfSome, IsSomeAnd, filter, slice_get, unwrap_or, Bool}
+use Rattle.std.specs.Prelude.{All, IfSome, IsSomeAnd, slice_get, unwrap_or}
 use Rattle.duct_definitions.specs.declared.design.Pair.{Pair}
 use Rattle.duct_definitions.specs.declared.limits.TheConstants.{MAX_PRICE}
 use Rattle.duct_definitions.specs.Tree.{section_count, sections, passes}
@@ -27,9 +27,9 @@ choice-more net s g few many sizes less choice = record {
       omega arith);
 }
 
-pub least_never_rises : (net : Network) (s g few many : ℕ) (dear cheap : Option ℕ) → few ≤ many
-    → IsLeast net s g few dear → IsLeast net s g many cheap
-    → IfSome dear (λ more. IsSomeAnd cheap (λ less. less ≤ more))
+pub least_never_rises : (net : Network) (s g few many : ℕ) (costly cheap : Option ℕ) → few ≤ many
+    → IsLeast net s g few costly → IsLeast net s g many cheap
+    → IfSome costly (λ more. IsSomeAnd cheap (λ less. less ≤ more))
 least_never_rises net s g few many None cheap within one other = tt
 least_never_rises net s g few many (Some more) None within one other =
     absurd (other one.reached.0 (choice-more net s g few many one.reached.0 within one.reached.1.0))
@@ -37,15 +37,6 @@ least_never_rises net s g few many (Some more) (Some less) within one other =
     let most = other.least one.reached.0 (choice-more net s g few many one.reached.0 within one.reached.1.0) in
     let same = one.reached.1.1 in
     omega arith
-
-length-filter-le : (test : ℕ → Bool) (xs : List ℕ) → length (filter test xs) ≤ length xs
-length-filter-le test [] = omega arith
-length-filter-le test (x ∷ xs) =
-    let rest = length-filter-le test xs in
-    elim (test x) as (λ b. length (cond b (x ∷ filter test xs) (filter test xs)) ≤ length (x ∷ xs)) [
-      | true ↦ omega arith
-      | false ↦ omega arith
-    ]
 
 unwrap-bounded : (pairs : List (Option Pair)) (i : ℕ) → All IsBounded pairs
     → IsBounded (unwrap_or (slice_get pairs i) None)
@@ -75,7 +66,8 @@ least_bounded net valid s g budget price least =
     sum_by-le w MAX_PRICE (sections_beyond net.tree s)
     (All-from_beyond net.tree valid.tree s (λ t. w t ≤ MAX_PRICE) (λ t less by. pair_at-price net valid t _ _ less)) in
     let few : length (sections_beyond net.tree s) ≤ section_count net.tree =
-    (let kept = length-filter-le (passes net.tree s) (sections net.tree) in
+    (let kept = length-filter (passes net.tree s) (sections net.tree) in
+    let most = count_by-le-length (passes net.tree s) (sections net.tree) in
     let count = length-range_with_len 0 (section_count net.tree) in
     omega arith) in
     let same = least.reached.1.1 in

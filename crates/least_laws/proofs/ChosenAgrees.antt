@@ -4,18 +4,15 @@ use Rattle.std.specs.Prelude.{fold, slice_get, unwrap_or, IfSome}
 use Rattle.duct_definitions.specs.declared.design.NetFan.{NetFan}
 use Rattle.duct_definitions.specs.Network.{Network, fan_at, return_fan_at, no_fan, cap}
 use Rattle.duct_definitions.specs.Designs.{fans_cost}
+use Rattle.design_laws.proofs.Among.{start-le-max}
 use Rattle.duct_units.specs.Prices.{both_of}
 use Rattle.least_laws.specs.Choosing.{return_budget, cost_at, IsOffered, IsChosen}
-
-start-le : (f : NetFan → ℕ) (a : ℕ) (fans : List NetFan) → a ≤ fold max a (map f fans)
-start-le f a [] = omega arith
-start-le f a (x ∷ xs) = let more = start-le f (max a (f x)) xs in omega arith
 
 -- each fan's value is at most the greatest
 each-le : (f : NetFan → ℕ) (a i : ℕ) (fans : List NetFan) → i < length fans
     → f (unwrap_or (slice_get fans i) no_fan) ≤ fold max a (map f fans)
 each-le f a i [] within = absurd (omega arith)
-each-le f a zero (x ∷ xs) within = let more = start-le f (max a (f x)) xs in omega arith
+each-le f a zero (x ∷ xs) within = let more = start-le-max f (max a (f x)) xs in omega arith
 each-le f a (suc i) (x ∷ xs) within = each-le f (max a (f x)) i xs (omega arith)
 
 pub pressure-le-cap : (net : Network) (i : ℕ) → i < length net.fans → (fan_at net i).pressure ≤ cap net

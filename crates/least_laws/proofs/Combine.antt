@@ -1,9 +1,10 @@
 -- One sizing for a section and all beyond it, from one for each of its children.
-use Rattle.std.proofs.Common.{◌≡◌, ℕ, zero, suc, ◌<◌, Bool, true, false, refl, arith, ap, sym, ◌∙◌, cond, ◌==◌, inl, inr, ◌&&◌}
+use Rattle.std.proofs.Common.{◌≡◌, ℕ, zero, suc, ◌<◌, true, false, refl, arith, ap, sym, ◌∙◌, cond, ◌==◌, inl, inr, ◌&&◌}
+use Rattle.std.proofs.lemmas.Bool.{false_from_ne_true, and_parts, and_from, ne_eqb}
 use Rattle.std.proofs.lemmas.Bool.Decides.{eqb_tells}
 use Rattle.duct_units.specs.declared.side.Side.{Side}
 use Rattle.tree_sums.specs.Route.{Place, Fan, At, same, Falls, goes_by}
-use Rattle.tree_sums.proofs.Places.{same-refl, same-true, not-true}
+use Rattle.tree_sums.proofs.Places.{same-refl, same-true}
 use Rattle.tree_sums.proofs.Split.{goes_by-le}
 use Rattle.tree_sums.proofs.Beyond.{only_child}
 use Rattle.least_laws.proofs.Ducts.{size_at}
@@ -17,30 +18,6 @@ pick next s G (suc m) t = cond (same (next m) (At s) && goes_by next (At m) t) (
 abbrev pub combined : (ℕ → Place) → ℕ → ℕ → ℕ → (ℕ → ℕ → ℕ) → ℕ → ℕ → ℕ
 combined next s k g G n t = cond (t == s) k (cond (same (next s) (At t)) g (pick next s G n t))
 
-and-both : (a b : Bool) → (a && b) ≡ true → (a ≡ true) × (b ≡ true)
-and-both true true is = (refl, refl)
-and-both true false is = absurd (cc is)
-and-both false b is = absurd (cc is)
-
-both-and : (a b : Bool) → a ≡ true → b ≡ true → (a && b) ≡ true
-both-and true true one other = refl
-both-and true false one other = other
-both-and false b one other = one
-
-other-number : (t s : ℕ) → t < s → (t == s) ≡ false
-other-number t s less =
-    not-true (t == s) (λ is. elim (eqb_tells t s) [
-      | inl equal ↦ let same_number = equal.1 in omega arith
-      | inr other ↦ let both = sym is ∙ other.0 in cc both
-    ])
-
-number-other : (t s : ℕ) → s < t → (t == s) ≡ false
-number-other t s more =
-    not-true (t == s) (λ is. elim (eqb_tells t s) [
-      | inl equal ↦ let same_number = equal.1 in omega arith
-      | inr other ↦ let both = sym is ∙ other.0 in cc both
-    ])
-
 module _ (next : ℕ → Place) (falls : Falls next) (s : ℕ) (G : ℕ → ℕ → ℕ) where
   pick-is : (c t n : ℕ) → c < n → next c ≡ At s → goes_by next (At c) t ≡ true → pick next s G n t ≡ G c t
   pick-is c t zero within child by = absurd (omega arith)
@@ -48,7 +25,7 @@ module _ (next : ℕ → Place) (falls : Falls next) (s : ℕ) (G : ℕ → ℕ 
       elim (same (next n) (At s) && goes_by next (At n) t) as
       (λ b. (same (next n) (At s) && goes_by next (At n) t) ≡ b → cond b (G n t) (pick next s G n t) ≡ G c t) [
         | true ↦ λ both.
-            let parts = and-both (same (next n) (At s)) (goes_by next (At n) t) both in
+            let parts = and_parts (same (next n) (At s)) (goes_by next (At n) t) both in
             ap (λ d. G d t) (only_child next falls s n c (same-true (next n) (At s) parts.0) child t parts.1 by)
         | false ↦ λ not_both. pick-is c t n
             (elim (eqb_tells c n) [
@@ -57,7 +34,7 @@ module _ (next : ℕ → Place) (falls : Falls next) (s : ℕ) (G : ℕ → ℕ 
                   ap (λ d. same (next d) (At s)) (sym equal.1) ∙ ap (λ o. same o (At s)) child ∙ same-refl (At s) in
                   let passed : goes_by next (At n) t ≡ true = ap (λ d. goes_by next (At d) t) (sym equal.1) ∙ by in
                   let apart : true ≡ false =
-                  sym (both-and (same (next n) (At s)) (goes_by next (At n) t) here passed) ∙ not_both in
+                  sym (and_from (same (next n) (At s)) (goes_by next (At n) t) here passed) ∙ not_both in
                   absurd (cc apart)
               | inr other ↦ let differ = other.1 in omega arith
             ]) child by
@@ -68,9 +45,10 @@ module _ (next : ℕ → Place) (falls : Falls next) (s : ℕ) (G : ℕ → ℕ 
   combined-beyond k g n c t within child by =
       let most = goes_by-le next falls c t by in
       let less = falls c s child in
-      let not_here : (t == s) ≡ false = number-other t s (omega arith) in
+      let not_here : (t == s) ≡ false = ne_eqb t s (omega arith) in
       let not_next : same (next s) (At t) ≡ false =
-      not-true (same (next s) (At t)) (λ is. let before = falls s t (same-true (next s) (At t) is) in omega arith) in
+      false_from_ne_true (same (next s) (At t))
+      (λ is. let before = falls s t (same-true (next s) (At t) is) in omega arith) in
       ap (λ b. cond b k (cond (same (next s) (At t)) g (pick next s G n t))) not_here
       ∙ ap (λ b. cond b g (pick next s G n t)) not_next
       ∙ pick-is c t n within child by
@@ -85,6 +63,6 @@ module _ (next : ℕ → Place) (falls : Falls next) (s : ℕ) (G : ℕ → ℕ 
         | Fan x ↦ λ is. sym (beside x is)
         | At q ↦ λ is.
             let before = falls s q is in
-            ap (λ b. cond b k (cond (same (next s) (At q)) g (pick next s G n q))) (other-number q s before)
+            ap (λ b. cond b k (cond (same (next s) (At q)) g (pick next s G n q))) (ne_eqb q s (omega arith))
             ∙ ap (λ b. cond b g (pick next s G n q)) (ap (λ o. same o (At q)) is ∙ same-refl (At q))
       ] refl

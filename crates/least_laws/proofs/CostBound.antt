@@ -9,7 +9,7 @@ use Rattle.duct_definitions.specs.Designs.{Covers, Meets, worst, fans_cost}
 use Rattle.duct_definitions.specs.Order.{NoneMeets}
 use Rattle.tree_sums.specs.Route.{Fan}
 use Rattle.duct_units.specs.Prices.{both_of}
-use Rattle.least_laws.specs.LeastIn.{least_in}
+use Rattle.least_laws.specs.LeastFromChildren.{least_in}
 use Rattle.least_laws.specs.Choosing.{side_least, return_budget, budget_of, cost_at, IsOffered}
 use Rattle.least_laws.proofs.Ducts.{IsSizing, price_sum}
 use Rattle.least_laws.proofs.Side.{side-bound}

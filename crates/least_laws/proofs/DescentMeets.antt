@@ -1,5 +1,6 @@
 -- The design taken from the fan outwards keeps both budgets, meets the rules, and has the least cost.
 use Rattle.std.proofs.Common.{◌≡◌, ℕ, ◌≤◌, arith, ap, sym, ◌∙◌, Some}
+use Rattle.std.proofs.lemmas.Option.{same_Some}
 use Rattle.std.specs.Prelude.{is_some}
 use Rattle.duct_units.specs.declared.side.Side.{Side}
 use Rattle.duct_units.specs.declared.side.Side.TheVariants.{Supply, Return}
@@ -9,17 +10,16 @@ use Rattle.duct_definitions.specs.Network.{Network}
 use Rattle.duct_definitions.specs.Designs.{Meets, worst, fans_cost, cost}
 use Rattle.tree_sums.specs.Route.{Fan}
 use Rattle.tree_sums.proofs.Places.{same-refl}
-use Rattle.least_laws.specs.LeastIn.{least_in}
+use Rattle.least_laws.specs.LeastFromChildren.{least_in}
 use Rattle.least_laws.specs.Choosing.{side_least, budget_of, IsChosen, IsDescent}
 use Rattle.least_laws.proofs.Ducts.{IsSizing}
-use Rattle.least_laws.proofs.LeastBelow.{some-same}
 use Rattle.least_laws.proofs.Side.{side-sizing, side_sum-optimal}
 use Rattle.least_laws.proofs.Descent.{IsBestSizing, first-best}
 use Rattle.least_laws.proofs.TreePlaces.{next_in-falls}
 use Rattle.least_laws.proofs.DuctsOf.{ducts_of}
 use Rattle.least_laws.proofs.SideLeast.{side_sum-least, least_in-sums, least_in-roots}
 use Rattle.least_laws.proofs.DesignSizes.{sizes_in, chosen-pair_of, goes_by-side, cost-sides, worst-le}
-use Rattle.least_laws.proofs.Taken.{descent-left, descent-first_sizes}
+use Rattle.least_laws.proofs.DescentSizes.{descent-left, descent-first_sizes}
 use Rattle.least_laws.proofs.CostBound.{side_price, both_sides, covers-from}
 
 module _ (net : Network) (tree : IsTree net.tree) (d : Design) (supply price : ℕ)
@@ -65,6 +65,6 @@ module _ (net : Network) (tree : IsTree net.tree) (d : Design) (supply price : �
   pub descent_cost : cost net d ≡ price
   descent_cost =
       let at = both_sides (fans_cost net d.fan d.back) _ _ _ _ (side_least-is Supply) (side_least-is Return) in
-      let same = some-same _ _ (sym chosen.reached ∙ at) in
+      let same = same_Some _ _ (sym chosen.reached ∙ at) in
       let whole = cost-sides net tree d in
       omega arith

@@ -14,7 +14,8 @@ use Rattle.duct_definitions.specs.Network.{Network, pair_at}
 use Rattle.duct_definitions.specs.Designs.{Meets, size_beside, pair_of, loss_of, price_of, path_loss, worst, fans_cost, cost}
 use Rattle.design_laws.proofs.Among.{Among, Among-filtered, le-max}
 use Rattle.duct_definitions.proofs.WayLaws.{way-at_fan, way-beside}
-use Rattle.design_laws.proofs.Ways.{neighbour_side, same_side-true}
+use Rattle.design_laws.proofs.Ways.{neighbour_side}
+use Rattle.duct_units.proofs.SideLaws.{same_side-true}
 use Rattle.design_laws.proofs.Beyond.{Among-leaves, is_within}
 use Rattle.std.proofs.lemmas.Bool.{and_parts}
 use Rattle.tree_sums.specs.Route.{Fan, goes_by}
@@ -25,9 +26,11 @@ use Rattle.tree_sums.proofs.Split.{goes_by-fan, goes_by-at}
 use Rattle.tree_sums.proofs.Along.{along-fan, along-on}
 use Rattle.tree_sums.proofs.Totals.{total-cong, total-add}
 use Rattle.least_laws.proofs.Ducts.{size_at, chosen, loss, price, IsSizing, price_sum}
-use Rattle.least_laws.proofs.TreePlaces.{place_of, next_in, next_in-falls, neighbour-at, neighbour-fan, neighbour-within, range_with_len-last}
+use Rattle.least_laws.proofs.TreePlaces.{place_of, next_in, next_in-falls, neighbour-at, neighbour-fan, neighbour-within}
+use Rattle.duct_definitions.proofs.SectionLists.{range-push}
 use Rattle.least_laws.proofs.TreeLists.{leaf-end, end-leaf}
-use Rattle.least_laws.proofs.DuctsOf.{ducts_of, some-there}
+use Rattle.least_laws.proofs.DuctsOf.{ducts_of}
+use Rattle.least_laws.proofs.PriceLaws.{some-there}
 
 -- the design's sizes
 abbrev pub sizes_in : Design → ℕ → ℕ
@@ -84,7 +87,7 @@ sum_by-range : (w : ℕ → ℕ) (n : ℕ) → sum_by w (range_with_len 0 n) ≡
 sum_by-range w zero = refl
 sum_by-range w (suc n) =
     let before = sum_by-range w n in
-    ap (sum_by w) (range_with_len-last 0 n)
+    ap (sum_by w) (range-push 0 n)
     ∙ sum_by-append w (range_with_len 0 n) ((0 + n) ∷ [])
     ∙ ap (λ k. sum_by w (range_with_len 0 n) + sum_by w (k ∷ [])) (let same : 0 + n ≡ n = omega arith in same)
     ∙ ap (λ z. sum_by w (range_with_len 0 n) + z)

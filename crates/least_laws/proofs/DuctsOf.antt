@@ -3,7 +3,6 @@ use Rattle.std.proofs.Common.{◌≡◌, ℕ, ◌<◌, ◌≤◌, true, refl, ar
 use Rattle.std.proofs.Math.Path.{fun_ext}
 use Rattle.std.specs.Prelude.{IsSome, is_some}
 use Rattle.duct_units.specs.declared.side.Side.{Side}
-use Rattle.duct_definitions.specs.declared.design.Pair.{Pair}
 use Rattle.duct_definitions.specs.Tree.{IsTree, section_count, neighbour, side, children, passes, at_neighbour}
 use Rattle.duct_definitions.specs.Network.{Network, size_count, columns, columns_beside, pair_at}
 use Rattle.duct_definitions.specs.Designs.{loss_of, price_of}
@@ -12,11 +11,12 @@ use Rattle.tree_sums.specs.Route.{At, goes_by}
 use Rattle.tree_sums.specs.Sums.{along, gated, beyond}
 use Rattle.tree_sums.proofs.Totals.{total-cong}
 use Rattle.least_laws.specs.Prices.{least_below, sum_of, with_pair}
-use Rattle.least_laws.specs.LeastIn.{least_with, least_from, AreLeasts}
+use Rattle.least_laws.specs.LeastFromChildren.{least_with, least_from, AreLeasts}
 use Rattle.least_laws.proofs.Ducts.{Ducts, size_at, chosen, loss, price, IsBeside, IsSizing, price_sum, IsLeastSum, joined, sum_with, sum_from, AreLeastSums}
 use Rattle.least_laws.proofs.TreePlaces.{place_of, next_in, neighbour-at, neighbour-fan, passes-goes_by, sum_by-way, sum_by-filter}
 use Rattle.least_laws.proofs.TreeLists.{All-beyond, All-from_beyond, All-leaves, All-from_leaves, children-same}
 use Rattle.least_laws.proofs.SumOf.{joined-sum_of}
+use Rattle.least_laws.proofs.PriceLaws.{some-there}
 
 abbrev pub ducts_of : Network → Ducts
 ducts_of net = record {
@@ -29,10 +29,6 @@ ducts_of net = record {
 size_at-place : (f : ℕ → ℕ) (x : Side) (o : Option ℕ) → size_at f (place_of x o) ≡ at_neighbour f o
 size_at-place f x None = refl
 size_at-place f x (Some n) = refl
-
-pub some-there : (o : Option Pair) → IsSome o → (p : Pair) × (o ≡ Some p)
-some-there None is = absurd (cc is)
-some-there (Some p) is = (p, refl)
 
 -- a size within the neighbour's is 0 at the fan
 pub beside-columns : (net : Network) (s g : ℕ) → g < columns net s → IsBeside (ducts_of net) s g

@@ -1,5 +1,5 @@
 -- Exact prices of sections: they move between networks that agree, and those of a side's roots add to the side's least.
-use Rattle.std.proofs.Common.{◌≡◌, ℕ, ◌*◌, ◌<◌, ◌≤◌, true, refl, arith, ap, ◌∙◌, subst, inl, inr, Option, Some, None, List, [], ◌∷◌, length}
+use Rattle.std.proofs.Common.{◌≡◌, ℕ, ◌*◌, ◌<◌, ◌≤◌, refl, arith, ap, ◌∙◌, subst, inl, inr, Option, Some, None, List, [], ◌∷◌, length}
 use Rattle.std.proofs.lemmas.Bool.{and_parts, ltb-true}
 use Rattle.std.specs.Prelude.{IfSome, is_none, nat_lt, ◌&&◌}
 use Rattle.duct_units.specs.declared.side.Side.{Side}
@@ -7,17 +7,18 @@ use Rattle.duct_definitions.specs.declared.limits.TheConstants.{MAX_PRICE}
 use Rattle.duct_definitions.specs.Tree.{Tree, IsTree, section_count, sections, neighbour, side, is_root, roots}
 use Rattle.duct_units.specs.Side.{same_side}
 use Rattle.duct_definitions.specs.Network.{Network, IsNetwork, columns, columns_beside, cap}
+use Rattle.duct_definitions.proofs.Valid.{none_tested}
 use Rattle.least_laws.specs.Least.{IsLeast}
 use Rattle.design_laws.proofs.Among.{Among, Among-filtered}
 use Rattle.duct_units.specs.Prices.{both_of}
 use Rattle.least_laws.specs.Prices.{sum_of}
-use Rattle.least_laws.specs.LeastIn.{least_in, IsExact}
+use Rattle.least_laws.specs.LeastFromChildren.{least_in, IsExact}
 use Rattle.least_laws.specs.SamePairs.{AgreeBeyond}
 use Rattle.least_laws.specs.Choosing.{side_least}
-use Rattle.least_laws.proofs.Alike.{least_agrees, columns-agree}
+use Rattle.least_laws.proofs.AgreeingNetworks.{least_agrees, columns-agree}
 use Rattle.least_laws.proofs.Leasts.{least_in-is, least_in-unique}
 use Rattle.least_laws.proofs.Bounds.{least_bounded}
-use Rattle.least_laws.proofs.Loops.{sum_of-le}
+use Rattle.least_laws.proofs.SumOf.{sum_of-le}
 
 pub exact_agrees : (net other : Network) (s : ℕ) → AgreeBeyond net other s → IsTree net.tree → cap other ≡ cap net
     → (cheapest : ℕ → ℕ → Option ℕ) → IsExact net s cheapest → IsExact other s cheapest
@@ -25,17 +26,13 @@ exact_agrees net other s agree tree same_cap cheapest exact g budget beside with
     let same = columns-agree net other s agree s in
     least_agrees net other s agree tree g budget (cheapest g budget) (exact g budget (omega arith) (omega arith))
 
-none-is : (o : Option ℕ) → is_none o ≡ true → o ≡ None
-none-is None is = refl
-none-is (Some n) is = absurd (cc is)
-
 -- a root is a section without a neighbour
 root-is : (t : Tree) (x : Side) (r : ℕ) → Among r (roots t x) → (r < section_count t) × (neighbour t r ≡ None)
 root-is t x r among =
     let found = Among-filtered (λ s. same_side (side t s) x && is_root t s) r (sections t) among in
     let is = (and_parts (same_side (side t r) x) (is_root t r) found.1).1 in
     let (less, none) = and_parts (nat_lt r (section_count t)) (is_none (neighbour t r)) is in
-    (ltb-true r (section_count t) less, none-is (neighbour t r) none)
+    (ltb-true r (section_count t) less, none_tested (neighbour t r) none)
 
 sum_of-same : (one other : ℕ → Option ℕ) (xs : List ℕ) → ((x : ℕ) → Among x xs → one x ≡ other x)
     → sum_of one xs ≡ sum_of other xs

@@ -1,11 +1,12 @@
 -- What the sum over the sections next to a place says of each price.
 use Rattle.std.proofs.Common.{◌≡◌, ℕ, zero, suc, ◌+◌, ◌<◌, true, false, refl, arith, ap, sym, ◌∙◌, cond, inl, inr, subst, Option, Some, None}
+use Rattle.std.proofs.lemmas.Option.{same_Some}
 use Rattle.std.proofs.lemmas.Bool.Decides.{eqb_tells}
 use Rattle.tree_sums.specs.Route.{Place, same}
 use Rattle.tree_sums.specs.Sums.{gated, total}
 use Rattle.duct_units.specs.Prices.{both_of}
 use Rattle.least_laws.proofs.Ducts.{joined}
-use Rattle.least_laws.proofs.LeastBelow.{value, some-same}
+use Rattle.least_laws.proofs.LeastBelow.{value}
 
 -- all prices at the sections next to o are there, and v is their sum
 pub record IsJoined (next : ℕ → Place) (o : Place) (h : ℕ → Option ℕ) (m v : ℕ) : Type 0 where
@@ -73,7 +74,7 @@ module _ (next : ℕ → Place) (o : Place) (h : ℕ → Option ℕ) where
   }
 
   pub joined-some : (m v : ℕ) → joined next o h m ≡ Some v → IsJoined next o h m v
-  joined-some zero v some = record { there = λ c less beside. absurd (omega arith); sum = some-same v 0 (sym some) }
+  joined-some zero v some = record { there = λ c less beside. absurd (omega arith); sum = same_Some v 0 (sym some) }
   joined-some (suc m) v some =
       elim (same (next m) o) as
       (λ b. same (next m) o ≡ b → cond b (both_of (joined next o h m) (h m)) (joined next o h m) ≡ Some v
@@ -86,7 +87,7 @@ module _ (next : ℕ → Place) (o : Place) (h : ℕ → Option ℕ) where
                   (λ d. h m ≡ d → both_of (Some x) d ≡ Some v → IsJoined next o h (suc m) v) [
                     | None ↦ λ at both. absurd (cc both)
                     | Some y ↦ λ at both.
-                        subst (IsJoined next o h (suc m)) (some-same (x + y) v both)
+                        subst (IsJoined next o h (suc m)) (same_Some (x + y) v both)
                         (joined-beside m x y beside at (joined-some m x before))
                   ] refl last
             ] refl is

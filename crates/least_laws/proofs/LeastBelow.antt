@@ -1,5 +1,6 @@
 -- What the least of many prices says of each.
 use Rattle.std.proofs.Common.{◌≡◌, ℕ, zero, suc, ◌<◌, ◌≤◌, min, refl, arith, ap, sym, ◌∙◌, inl, inr, subst, Option, Some, None}
+use Rattle.std.proofs.lemmas.Option.{same_Some}
 use Rattle.std.proofs.lemmas.Bool.Decides.{eqb_tells, leb_tells}
 use Rattle.duct_units.specs.Prices.{lesser}
 use Rattle.least_laws.specs.Prices.{least_below}
@@ -7,9 +8,6 @@ use Rattle.least_laws.specs.Prices.{least_below}
 abbrev pub value : Option ℕ → ℕ
 value None = 0
 value (Some x) = x
-
-pub some-same : (x y : ℕ) → Some x ≡ Some y → x ≡ y
-some-same x y is = cc
 
 -- v is the price at some number below n, and the least of these
 pub record IsLeastBelow (h : ℕ → Option ℕ) (n v : ℕ) : Type 0 where
@@ -39,7 +37,7 @@ least_below-first h n v none last = record {
   below = omega arith;
   is = last;
   least = λ k y less is. elim (eqb_tells k n) [
-    | inl same ↦ let equal : v ≡ y = some-same v y (sym last ∙ ap h (sym same.1) ∙ is) in omega arith
+    | inl same ↦ let equal : v ≡ y = same_Some v y (sym last ∙ ap h (sym same.1) ∙ is) in omega arith
     | inr other ↦
         let no : None ≡ Some y = sym (least_below-none h n none k (let differ = other.1 in omega arith)) ∙ is in
         absurd (cc no)
@@ -66,7 +64,7 @@ least_below-new h n v u so_far last lower = record {
   below = omega arith;
   is = last;
   least = λ k y less is. elim (eqb_tells k n) [
-    | inl same ↦ let equal : u ≡ y = some-same u y (sym last ∙ ap h (sym same.1) ∙ is) in omega arith
+    | inl same ↦ let equal : u ≡ y = same_Some u y (sym last ∙ ap h (sym same.1) ∙ is) in omega arith
     | inr other ↦ let least = so_far.least k y (let differ = other.1 in omega arith) is in omega arith
   ];
 }
@@ -80,16 +78,16 @@ least_below-some h (suc n) v some =
           let so_far = least_below-some h n x before in
           elim (h n) as (λ d. h n ≡ d → lesser (Some x) d ≡ Some v → IsLeastBelow h (suc n) v) [
             | None ↦ λ none is.
-                subst (IsLeastBelow h (suc n)) (some-same x v is)
+                subst (IsLeastBelow h (suc n)) (same_Some x v is)
                 (least_below-kept h n x so_far (λ y at. let no : None ≡ Some y = sym none ∙ at in absurd (cc no)))
             | Some u ↦ λ at is.
-                let least : min x u ≡ v = some-same (min x u) v is in
+                let least : min x u ≡ v = same_Some (min x u) v is in
                 elim (leb_tells x u) [
                   | inl order ↦
                       let lower = order.1 in
                       subst (IsLeastBelow h (suc n)) (let equal : x ≡ v = omega arith in equal)
                       (least_below-kept h n x so_far
-                      (λ y again. let equal : u ≡ y = some-same u y (sym at ∙ again) in omega arith))
+                      (λ y again. let equal : u ≡ y = same_Some u y (sym at ∙ again) in omega arith))
                   | inr order ↦
                       let higher = order.1 in
                       subst (IsLeastBelow h (suc n)) (let equal : u ≡ v = omega arith in equal)

@@ -4,8 +4,8 @@ use Rattle.duct_definitions.specs.Tree.{IsTree, section_count}
 use Rattle.duct_definitions.specs.Network.{Network, columns}
 use Rattle.least_laws.specs.Least.{IsLeast}
 use Rattle.duct_definitions.proofs.TreeLaws.{earlier}
-use Rattle.least_laws.specs.LeastIn.{least_from, least_within, least_in, AreLeasts}
-use Rattle.least_laws.proofs.Theorem.{least-step}
+use Rattle.least_laws.specs.LeastFromChildren.{least_from, least_within, least_in, AreLeasts}
+use Rattle.least_laws.proofs.LeastOfSection.{least-step}
 use Rattle.least_laws.proofs.TreePlaces.{next_in-falls}
 use Rattle.least_laws.proofs.DuctsOf.{ducts_of, beside-columns, columns-child, least-from_sum, sum_from-least_from, sums-from_leasts}
 

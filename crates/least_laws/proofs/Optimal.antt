@@ -11,9 +11,9 @@ use Rattle.least_laws.proofs.Ducts.{Ducts, size_at, chosen, loss, price, IsBesid
 use Rattle.least_laws.proofs.LeastBelow.{value, IsLeastBelow, least_below-some}
 use Rattle.least_laws.proofs.Joined.{IsJoined, joined-some}
 use Rattle.least_laws.proofs.WithPair.{IsMade, made}
-use Rattle.least_laws.proofs.Step.{sizing-child, child-within}
-use Rattle.least_laws.proofs.Ends.{price_sum-split}
-use Rattle.least_laws.proofs.Theorem.{least-step, bound, IsBound}
+use Rattle.least_laws.proofs.ChildSizings.{sizing-child, child-within}
+use Rattle.least_laws.proofs.SectionAndBeyond.{price_sum-split}
+use Rattle.least_laws.proofs.LeastOfSection.{least-step, bound, IsBound}
 use Rattle.least_laws.proofs.Unique.{least-unique}
 
 -- f is a sizing from s on, beside size g and within b, and none costs less

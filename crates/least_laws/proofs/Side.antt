@@ -11,7 +11,7 @@ use Rattle.tree_sums.proofs.Beyond.{goes_by-from, fan-cases}
 use Rattle.least_laws.proofs.Ducts.{Ducts, size_at, loss, price, IsSizing, price_sum, IsLeastSum, joined}
 use Rattle.least_laws.proofs.LeastBelow.{value}
 use Rattle.least_laws.proofs.Joined.{joined-none, joined-some}
-use Rattle.least_laws.proofs.Step.{child-within}
+use Rattle.least_laws.proofs.ChildSizings.{child-within}
 use Rattle.least_laws.proofs.Unique.{least-unique}
 use Rattle.least_laws.proofs.Optimal.{IsOptimal}
 

@@ -5,7 +5,7 @@ use Rattle.duct_definitions.specs.Tree.{IsTree, section_count}
 use Rattle.duct_definitions.specs.Network.{Network, columns, columns_beside}
 use Rattle.tree_sums.specs.Route.{Fan}
 use Rattle.least_laws.specs.Prices.{sum_of}
-use Rattle.least_laws.specs.LeastIn.{least_in}
+use Rattle.least_laws.specs.LeastFromChildren.{least_in}
 use Rattle.least_laws.specs.Choosing.{side_least}
 use Rattle.least_laws.proofs.Ducts.{AreLeastSums}
 use Rattle.least_laws.proofs.Side.{AreRootSums, side_sum}

@@ -1,30 +1,15 @@
--- The sum of the prices in a list: one more price, and one more list.
-use Rattle.std.proofs.Common.{◌≡◌, ℕ, zero, suc, ◌+◌, refl, arith, ap, sym, ◌∙◌, cond, true, false, Option, Some, None, List, [], ◌∷◌, ◌++◌}
-use Rattle.std.specs.Prelude.{filter}
+-- The sum of the prices in a list: one more price, one more list, and how great it can be.
+use Rattle.std.proofs.Common.{◌≡◌, ℕ, zero, suc, ◌+◌, refl, arith, ap, sym, ◌∙◌, cond, true, false, Option, List, [], ◌∷◌, ◌++◌, ◌*◌, ◌<◌, ◌≤◌, inl, inr, subst, length, take, get_or}
+use Rattle.std.specs.Prelude.{filter, IfSome}
 use Rattle.std.specs.List.{range_with_len}
 use Rattle.tree_sums.specs.Route.{Place, same}
 use Rattle.duct_units.specs.Prices.{lesser, both_of}
 use Rattle.least_laws.specs.Prices.{least_below, sum_of}
 use Rattle.least_laws.proofs.Ducts.{joined}
-use Rattle.least_laws.proofs.TreePlaces.{filter-range_last}
-
-both_of-zero : (x : Option ℕ) → both_of x (Some 0) ≡ x
-both_of-zero None = refl
-both_of-zero (Some x) = ap Some (let same : x + 0 ≡ x = omega arith in same)
-
-zero-both_of : (x : Option ℕ) → both_of (Some 0) x ≡ x
-zero-both_of None = refl
-zero-both_of (Some x) = ap Some (let same : 0 + x ≡ x = omega arith in same)
-
-both_of-none : (x : Option ℕ) → both_of x None ≡ None
-both_of-none None = refl
-both_of-none (Some x) = refl
-
-both_of-again : (x y z : Option ℕ) → both_of (both_of x y) z ≡ both_of x (both_of y z)
-both_of-again None y z = refl
-both_of-again (Some x) None z = refl
-both_of-again (Some x) (Some y) None = refl
-both_of-again (Some x) (Some y) (Some z) = ap Some (let same : x + y + z ≡ x + (y + z) = omega arith in same)
+use Rattle.duct_definitions.proofs.SectionLists.{chosen-suc}
+use Rattle.design_laws.proofs.Among.{Among}
+use Rattle.least_laws.proofs.PriceLaws.{both_of-zero, zero-both_of, both_of-again, both_of-le}
+use Rattle.std.proofs.lemmas.List.{take_more}
 
 pub sum_of-append : (price : ℕ → Option ℕ) (xs ys : List ℕ)
     → sum_of price (xs ++ ys) ≡ both_of (sum_of price xs) (sum_of price ys)
@@ -58,4 +43,21 @@ joined-sum_of next o price (suc n) =
       | false ↦ joined-sum_of next o price n
           ∙ sym (sum_of-append price so_far [] ∙ both_of-zero (sum_of price so_far))
     ] in
-    last ∙ sym (ap (sum_of price) (filter-range_last (λ c. same (next c) o) n))
+    last ∙ sym (ap (sum_of price) (chosen-suc (λ c. same (next c) o) n))
+
+-- the sum of one more price of a list, as a loop adds it
+pub sum_of-take_get_or : (price : ℕ → Option ℕ) (xs : List ℕ) (i d : ℕ) → i < length xs
+    → sum_of price (take (i + 1) xs) ≡ both_of (sum_of price (take i xs)) (price (get_or xs i d))
+sum_of-take_get_or price xs i d within =
+    ap (sum_of price) (take_more xs i d within) ∙ sum_of-last price (take i xs) (get_or xs i d)
+
+-- a sum of prices of which each is at most m
+pub sum_of-le : (price : ℕ → Option ℕ) (m : ℕ) (xs : List ℕ) → ((x : ℕ) → Among x xs → IfSome (price x) (λ v. v ≤ m))
+    → IfSome (sum_of price xs) (λ v. v ≤ length xs * m)
+sum_of-le price m [] each = omega arith
+sum_of-le price m (x ∷ xs) each =
+    let both : IfSome (sum_of price (x ∷ xs)) (λ v. v ≤ m + length xs * m) =
+    both_of-le (price x) (sum_of price xs) m (length xs * m) (each x (inl refl))
+    (sum_of-le price m xs (λ y later. each y (inr later))) in
+    let same : m + length xs * m ≡ length (x ∷ xs) * m = omega arith in
+    subst (λ n. IfSome (sum_of price (x ∷ xs)) (λ v. v ≤ n)) same both

@@ -1,11 +1,10 @@
 -- The lists of a tree, as tests of places: children, roots, the sections beyond a section, and the leaves beyond it.
 use Rattle.std.proofs.Common.{◌≡◌, ◌≢◌, ℕ, zero, suc, ◌<◌, Bool, true, false, refl, arith, ap, sym, ◌∙◌, cond, inl, inr, subst, Option, Some, None, List, [], ◌∷◌, ◌++◌, length}
-use Rattle.std.proofs.lemmas.Bool.{and_parts, and_from, eqb-true, eq-eqb, lt-ltb}
+use Rattle.std.proofs.lemmas.Bool.{and_parts, and_from, eqb-true, eq-eqb, lt-ltb, false_from_ne_true}
 use Rattle.std.proofs.lemmas.List.Elements.{All-nil, All-cons, All-head, All-tail}
 use Rattle.std.specs.Prelude.{◌&&◌, ◌==◌, All, filter, is_none}
 use Rattle.std.specs.List.{range_with_len}
 use Rattle.duct_units.specs.declared.side.Side.{Side}
-use Rattle.duct_units.specs.declared.side.Side.TheVariants.{Supply, Return}
 use Rattle.duct_definitions.specs.Tree.{Tree, IsTree, section_count, sections, neighbour, side, is_number, children, is_leaf, is_root, roots, way, passes}
 use Rattle.duct_units.specs.Side.{same_side}
 use Rattle.duct_definitions.specs.Dampers.{leaves_beyond}
@@ -13,8 +12,9 @@ use Rattle.least_laws.specs.Least.{sections_beyond}
 use Rattle.design_laws.proofs.Among.{Among, Among-filter, Among-filtered, Among-range, below-range, list_any-among, among-list_any}
 use Rattle.design_laws.proofs.Beyond.{no_item, IsBeyond-from, IsBeyond-way, Among-leaves_beyond, is_within}
 use Rattle.tree_sums.specs.Route.{Fan, At, same, goes_by}
-use Rattle.tree_sums.proofs.Places.{same-true, not-true}
-use Rattle.least_laws.proofs.TreePlaces.{place_of, next_in, neighbour-at, passes-goes_by, filter-range_last}
+use Rattle.tree_sums.proofs.Places.{same-true}
+use Rattle.least_laws.proofs.TreePlaces.{place_of, next_in, neighbour-at, passes-goes_by}
+use Rattle.duct_definitions.proofs.SectionLists.{chosen-suc}
 
 pub All-among : {X : Type 0} (P : X → Type 0) (x : X) (xs : List X) → All P xs → Among x xs → P x
 All-among P x [] all among = absurd among
@@ -31,15 +31,15 @@ filter-range_same : (p q : ℕ → Bool) (n : ℕ) → ((k : ℕ) → k < n → 
     → filter p (range_with_len 0 n) ≡ filter q (range_with_len 0 n)
 filter-range_same p q zero agree = refl
 filter-range_same p q (suc n) agree =
-    filter-range_last p n
+    chosen-suc p n
     ∙ ap (λ xs. xs ++ cond (p n) (n ∷ []) []) (filter-range_same p q n (λ k less. agree k (omega arith)))
     ∙ ap (λ b. filter q (range_with_len 0 n) ++ cond b (n ∷ []) []) (agree n (omega arith))
-    ∙ sym (filter-range_last q n)
+    ∙ sym (chosen-suc q n)
 
 filter-range_none : (p : ℕ → Bool) (n : ℕ) → ((k : ℕ) → k < n → p k ≡ false) → filter p (range_with_len 0 n) ≡ []
 filter-range_none p zero none = refl
 filter-range_none p (suc n) none =
-    filter-range_last p n
+    chosen-suc p n
     ∙ ap (λ xs. xs ++ cond (p n) (n ∷ []) []) (filter-range_none p n (λ k less. none k (omega arith)))
     ∙ ap (λ b. cond b (n ∷ []) []) (none n (omega arith))
 
@@ -52,12 +52,6 @@ children-same t s =
     filter-range_same (λ c. is_number s (neighbour t c)) (λ c. same (next_in t c) (At s)) (section_count t)
     (λ c less. is_number-same s (side t c) (neighbour t c))
 
-same_side-end : (x y : Side) → same_side x y ≡ same_side x y
-same_side-end Supply Supply = refl
-same_side-end Supply Return = refl
-same_side-end Return Supply = refl
-same_side-end Return Return = refl
-
 and-true : (b : Bool) → (b && true) ≡ b
 and-true true = refl
 and-true false = refl
@@ -67,7 +61,7 @@ and-false true = refl
 and-false false = refl
 
 is_root-same : (x y : Side) (o : Option ℕ) → (same_side y x && is_none o) ≡ same (place_of y o) (Fan x)
-is_root-same x y None = and-true (same_side y x) ∙ same_side-end y x
+is_root-same x y None = and-true (same_side y x)
 is_root-same x y (Some n) = and-false (same_side y x)
 
 pub roots-same : (t : Tree) (x : Side) → roots t x ≡ filter (λ s. same (next_in t s) (Fan x)) (sections t)
@@ -93,7 +87,8 @@ end-leaf t leaf within end =
     let none : children t leaf ≡ [] =
     children-same t leaf
     ∙ filter-range_none (λ c. same (next_in t c) (At leaf)) (section_count t)
-    (λ c less. not-true (same (next_in t c) (At leaf)) (λ is. end c less (same-true (next_in t c) (At leaf) is))) in
+    (λ c less.
+    false_from_ne_true (same (next_in t c) (At leaf)) (λ is. end c less (same-true (next_in t c) (At leaf) is))) in
     and_from _ _ (lt-ltb leaf (section_count t) within) (ap (λ cs. length cs == 0) none)
 
 module _ (t : Tree) (tree : IsTree t) (s : ℕ) (P : ℕ → Type 0) where

@@ -1,8 +1,8 @@
 -- A tree of sections, as what stands next to each section: ways are routes, and sums over the sections of a way or
 -- beyond a section are sums along a route or beyond a place.
-use Rattle.std.proofs.Common.{◌≡◌, ℕ, zero, suc, ◌+◌, ◌<◌, Bool, true, false, refl, arith, ap, sym, ◌∙◌, cond, inl, inr, subst, Option, Some, None, List, [], ◌∷◌, ◌++◌, ◌||◌}
+use Rattle.std.proofs.Common.{◌≡◌, ℕ, zero, suc, ◌+◌, ◌<◌, Bool, true, false, refl, arith, ap, sym, ◌∙◌, cond, inl, inr, subst, Option, Some, None, List, [], ◌∷◌, ◌||◌}
+use Rattle.std.proofs.lemmas.Bool.{false_from_ne_true}
 use Rattle.std.proofs.lemmas.Bool.Decides.{leb_tells}
-use Rattle.std.proofs.lemmas.List.Elements.{filter-append}
 use Rattle.std.proofs.lemmas.List.Sums.{sum_by-cons, sum_by-append}
 use Rattle.std.proofs.lemmas.Option.{slice_get_past}
 use Rattle.std.specs.Prelude.{◌==◌, filter, sum_by, unwrap_or}
@@ -10,11 +10,12 @@ use Rattle.std.specs.List.{range_with_len, list_any}
 use Rattle.duct_units.specs.declared.side.Side.{Side}
 use Rattle.duct_definitions.specs.Tree.{Tree, IsTree, section_count, neighbour, side, way, passes}
 use Rattle.duct_definitions.proofs.TreeLaws.{earlier}
+use Rattle.duct_definitions.proofs.SectionLists.{chosen-suc}
 use Rattle.duct_definitions.proofs.WayLaws.{way-at_fan, way-beside}
 use Rattle.tree_sums.specs.Route.{Place, Fan, At, same, Falls, goes_by}
 use Rattle.tree_sums.specs.Sums.{along, total, gated}
 use Rattle.tree_sums.proofs.Climb.{climb}
-use Rattle.tree_sums.proofs.Places.{same-true, same-sym, at-number, not-true}
+use Rattle.tree_sums.proofs.Places.{same-true, same-sym, at-number}
 use Rattle.tree_sums.proofs.Split.{goes_by-fan, goes_by-at, goes_by-le}
 use Rattle.tree_sums.proofs.Along.{along-fan, along-self, along-on}
 use Rattle.tree_sums.proofs.Beyond.{first-step}
@@ -27,12 +28,6 @@ place_of x (Some n) = At n
 -- what stands next to a section
 abbrev pub next_in : Tree → ℕ → Place
 next_in t s = place_of (side t s) (neighbour t s)
-
-pub next_in-some : (t : Tree) (s n : ℕ) → neighbour t s ≡ Some n → next_in t s ≡ At n
-next_in-some t s n is = ap (place_of (side t s)) is
-
-pub next_in-none : (t : Tree) (s : ℕ) → neighbour t s ≡ None → next_in t s ≡ Fan (side t s)
-next_in-none t s is = ap (place_of (side t s)) is
 
 fan-side : (x y : Side) → Fan x ≡ Fan y → x ≡ y
 fan-side x y is = cc
@@ -86,7 +81,7 @@ module _ (t : Tree) (tree : IsTree t) where
 
   not_passed : (s x : ℕ) → x < s → passes t s x ≡ false
   not_passed s x less =
-      not-true (passes t s x) (λ by.
+      false_from_ne_true (passes t s x) (λ by.
       let most = goes_by-le (next_in t) (next_in-falls t tree) s x (sym (passes-goes_by s x) ∙ by) in
       omega arith)
 
@@ -142,21 +137,6 @@ module _ (t : Tree) (tree : IsTree t) where
             omega arith
       ])
 
-pub range_with_len-last : (a n : ℕ) → range_with_len a (suc n) ≡ range_with_len a n ++ (a + n) ∷ []
-range_with_len-last a zero = ap (λ k. k ∷ []) (let same : a ≡ a + 0 = omega arith in same)
-range_with_len-last a (suc n) =
-    ap (λ ks. a ∷ ks) (range_with_len-last (a + 1) n)
-    ∙ ap (λ k. a ∷ (range_with_len (a + 1) n ++ k ∷ [])) (let same : a + 1 + n ≡ a + suc n = omega arith in same)
-
--- the filter of one more number
-pub filter-range_last : (test : ℕ → Bool) (n : ℕ)
-    → filter test (range_with_len 0 (suc n)) ≡ filter test (range_with_len 0 n) ++ cond (test n) (n ∷ []) []
-filter-range_last test n =
-    ap (filter test) (range_with_len-last 0 n)
-    ∙ filter-append test (range_with_len 0 n) ((0 + n) ∷ [])
-    ∙ ap (λ k. filter test (range_with_len 0 n) ++ cond (test k) (k ∷ []) [])
-    (let same : 0 + n ≡ n = omega arith in same)
-
 -- a sum over the numbers that pass a test
 pub sum_by-filter : (w : ℕ → ℕ) (test : ℕ → Bool) (n : ℕ)
     → sum_by w (filter test (range_with_len 0 n)) ≡ total (λ k. gated (test k) (w k)) n
@@ -168,7 +148,7 @@ sum_by-filter w test (suc n) =
       | false ↦ refl
     ] in
     let before = sum_by-filter w test n in
-    ap (sum_by w) (filter-range_last test n)
+    ap (sum_by w) (chosen-suc test n)
     ∙ sum_by-append w (filter test (range_with_len 0 n)) (cond (test n) (n ∷ []) [])
     ∙ ap (λ z. sum_by w (filter test (range_with_len 0 n)) + z) last
     ∙ ap (λ z. z + gated (test n) (w n)) before

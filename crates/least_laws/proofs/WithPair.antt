@@ -1,10 +1,10 @@
 -- What the price of a pair and of the rest is made of.
 use Rattle.std.proofs.Common.{◌≡◌, ℕ, ◌+◌, ◌-◌, ◌≤◌, refl, arith, ap, sym, ◌∙◌, cond, inl, inr, Option, Some, None}
+use Rattle.std.proofs.lemmas.Option.{same_Some}
 use Rattle.std.proofs.lemmas.Bool.Decides.{leb_tells}
 use Rattle.duct_definitions.specs.declared.design.Pair.{Pair}
 use Rattle.duct_units.specs.Prices.{both_of}
 use Rattle.least_laws.specs.Prices.{with_pair}
-use Rattle.least_laws.proofs.LeastBelow.{some-same}
 
 pub with_pair-is : (o : Option Pair) (p : Pair) (b : ℕ) (rest : ℕ → Option ℕ) → o ≡ Some p → p.loss ≤ b
     → with_pair o b rest ≡ both_of (Some p.price) (rest (b - p.loss))
@@ -41,7 +41,7 @@ made (Some p) b v rest is =
                   pair = refl;
                   fits = less.1;
                   rest_is = at;
-                  sum = some-same (p.price + u) v sum_is;
+                  sum = same_Some (p.price + u) v sum_is;
                 }
           ] refl both
       | inr more ↦

@@ -10,7 +10,7 @@ use Rattle.duct_definitions.specs.Designs.{size_beside, pair_of, loss_of, fans_c
 use Rattle.duct_definitions.specs.Order.{turn_of}
 use Rattle.duct_units.specs.Prices.{both_of}
 use Rattle.least_laws.specs.Prices.{sum_of}
-use Rattle.least_laws.specs.LeastIn.{least_in, least_with}
+use Rattle.least_laws.specs.LeastFromChildren.{least_in, least_with}
 
 -- the least price of a side within a budget: the sum of the leasts of its roots, 0 without sections
 abbrev pub side_least : Network → Side → ℕ → Option ℕ
@@ -39,7 +39,8 @@ pub record IsOffered (net : Network) (fan : ℕ) (own : Option ℕ) (budget : �
 
 -- the fans and the supply budget have the least cost; no earlier fan has it, with this fan no earlier turn of a return
 -- fan, and with both no less supply budget
-pub record IsChosen (net : Network) (supply back : ℕ → Option ℕ) (fan : ℕ) (own : Option ℕ) (budget cost : ℕ) : Type 0 where
+pub record IsChosen (net : Network) (supply back : ℕ → Option ℕ) (fan : ℕ) (own : Option ℕ) (budget cost : ℕ)
+    : Type 0 where
   pub offered : IsOffered net fan own budget
   pub reached : cost_at net supply back fan own budget ≡ Some cost
   pub least : (i : ℕ) (o : Option ℕ) (b c : ℕ) → IsOffered net i o b → cost_at net supply back i o b ≡ Some c → cost ≤ c

@@ -1,5 +1,5 @@
 pub mod Least
 pub mod Prices
-pub mod LeastIn
+pub mod LeastFromChildren
 pub mod SamePairs
 pub mod Choosing

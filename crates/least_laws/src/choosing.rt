@@ -10,7 +10,7 @@ ghost use Rattle.duct_definitions.specs.Network.{Network, IsNetwork, columns, pa
 ghost use Rattle.duct_definitions.specs.Designs.{loss_of, cost};
 ghost use Rattle.duct_definitions.specs.Order.{IsBest, NoneMeets};
 ghost use Rattle.least_laws.specs.Prices.{sum_of};
-ghost use Rattle.least_laws.specs.LeastIn.{least_in, IsExact};
+ghost use Rattle.least_laws.specs.LeastFromChildren.{least_in, IsExact};
 ghost use Rattle.least_laws.specs.Choosing.{side_least, budget_of, cost_at, IsOffered, IsChosen, Attains, IsDescent};
 
 /// With the first fan, then the first turn of a return fan, and then the least supply budget of the least cost, the

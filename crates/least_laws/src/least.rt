@@ -5,7 +5,7 @@ ghost use Rattle.duct_definitions.specs.declared.limits.TheConstants.{MAX_PRICE}
 ghost use Rattle.duct_definitions.specs.Tree.{IsTree, section_count};
 ghost use Rattle.duct_definitions.specs.Network.{Network, IsNetwork, columns, cap};
 ghost use Rattle.least_laws.specs.Least.{IsLeast};
-ghost use Rattle.least_laws.specs.LeastIn.{least_from, least_in, AreLeasts, IsExact};
+ghost use Rattle.least_laws.specs.LeastFromChildren.{least_from, least_in, AreLeasts, IsExact};
 ghost use Rattle.least_laws.specs.SamePairs.{AgreeBeyond};
 
 /// The least of a section is the least, over its sizes, of what a size costs with the children's leasts beside it.
@@ -43,9 +43,9 @@ pub fn least_depends_on_pairs_beyond()
 
 /// Within a greater budget a section costs no more.
 pub fn least_never_rises()
-    ensures { (net : Network) (s g few many : ℕ) (dear cheap : Option ℕ) → few ≤ many
-        → IsLeast net s g few dear → IsLeast net s g many cheap
-        → IfSome dear (λ more. IsSomeAnd cheap (λ less. less ≤ more)) }
+    ensures { (net : Network) (s g few many : ℕ) (costly cheap : Option ℕ) → few ≤ many
+        → IsLeast net s g few costly → IsLeast net s g many cheap
+        → IfSome costly (λ more. IsSomeAnd cheap (λ less. less ≤ more)) }
 {}
 
 /// A section and all beyond it cost no more than the greatest price for each section of the network.

@@ -1,10 +1,11 @@
 -- Sums along routes, one step at a time; a route to a place goes through one section next to it.
 use Rattle.std.proofs.Common.{◌≡◌, ℕ, ◌+◌, true, false, refl, arith, ap, sym, ◌∙◌, cond, inl, inr}
+use Rattle.std.proofs.lemmas.Bool.{or_cases, false_from_ne_true}
 use Rattle.duct_units.specs.declared.side.Side.{Side}
 use Rattle.tree_sums.specs.Route.{Place, Fan, At, same, Falls, goes_by}
 use Rattle.tree_sums.specs.Sums.{along, weight_at}
 use Rattle.tree_sums.proofs.Climb.{climb, route-fan, route-at}
-use Rattle.tree_sums.proofs.Places.{same-refl, same-true, at-number, or-cases, not-true}
+use Rattle.tree_sums.proofs.Places.{same-refl, same-true, at-number}
 use Rattle.tree_sums.proofs.Split.{goes_by-fan, goes_by-at, goes_by-le}
 
 module _ (next : ℕ → Place) (falls : Falls next) (w : ℕ → ℕ) where
@@ -33,7 +34,7 @@ module _ (next : ℕ → Place) (falls : Falls next) (w : ℕ → ℕ) where
   pub along-on : (o : Place) (t p : ℕ) → next t ≡ At p → (same o (At t) ≡ true → ⊥)
       → along next w o t ≡ w t + along next w o p
   along-on o t p is other =
-      along-at o t p is ∙ ap (λ b. w t + cond b 0 (along next w o p)) (not-true (same o (At t)) other)
+      along-at o t p is ∙ ap (λ b. w t + cond b 0 (along next w o p)) (false_from_ne_true (same o (At t)) other)
 
   -- as far as o a route loses what it loses as far as the section c next to o, and the weight of o
   pub along-split : (o : Place) (c : ℕ) → next c ≡ o → (t : ℕ) → goes_by next (At c) t ≡ true
@@ -41,7 +42,7 @@ module _ (next : ℕ → Place) (falls : Falls next) (w : ℕ → ℕ) where
   along-split o c beside =
       climb next falls
       (λ t. goes_by next (At c) t ≡ true → along next w o t ≡ along next w (At c) t + weight_at w o)
-      (λ t y is by. elim (or-cases (same (At c) (At t)) false (sym (goes_by-fan next falls t y is (At c)) ∙ by)) [
+      (λ t y is by. elim (or_cases (same (At c) (At t)) false (sym (goes_by-fan next falls t y is (At c)) ∙ by)) [
         | inl here ↦
             let equal : c ≡ t = at-number c t (same-true (At c) (At t) here) in
             let end : o ≡ Fan y = sym beside ∙ ap next equal ∙ is in
@@ -51,7 +52,7 @@ module _ (next : ℕ → Place) (falls : Falls next) (w : ℕ → ℕ) where
             omega arith
         | inr later ↦ cc
       ])
-      (λ t p is rest by. elim (or-cases (same (At c) (At t)) (goes_by next (At c) p)
+      (λ t p is rest by. elim (or_cases (same (At c) (At t)) (goes_by next (At c) p)
       (sym (goes_by-at next falls t p is (At c)) ∙ by)) [
         | inl here ↦
             let equal : c ≡ t = at-number c t (same-true (At c) (At t) here) in

@@ -1,25 +1,26 @@
 -- What lies beyond a section: the section, or beyond one of its children and no other.
 use Rattle.std.proofs.Common.{◌≡◌, ℕ, ◌+◌, ◌<◌, true, false, refl, arith, ap, sym, ◌∙◌, ◌⊎◌, inl, inr, subst}
+use Rattle.std.proofs.lemmas.Bool.{or_cases, or_left, or_right}
 use Rattle.duct_units.specs.declared.side.Side.{Side}
 use Rattle.tree_sums.specs.Route.{Place, Fan, At, same, Falls, goes_by}
 use Rattle.tree_sums.specs.Sums.{along, beyond}
 use Rattle.tree_sums.proofs.Climb.{climb}
-use Rattle.tree_sums.proofs.Places.{same-refl, same-true, at-number, or-cases, or-left, or-right, gated-cong}
+use Rattle.tree_sums.proofs.Places.{same-refl, same-true, at-number, gated-cong}
 use Rattle.tree_sums.proofs.Split.{goes_by-fan, goes_by-at, goes_by-le}
 use Rattle.tree_sums.proofs.Along.{along-fan, along-self, along-on}
 use Rattle.tree_sums.proofs.Totals.{total-cong}
 
 module _ (next : ℕ → Place) (falls : Falls next) where
   pub goes_by-more : (o : Place) (t p : ℕ) → next t ≡ At p → goes_by next o p ≡ true → goes_by next o t ≡ true
-  goes_by-more o t p is by = goes_by-at next falls t p is o ∙ or-right (same o (At t)) (goes_by next o p) by
+  goes_by-more o t p is by = goes_by-at next falls t p is o ∙ or_right (same o (At t)) (goes_by next o p) by
 
   pub goes_by-self : (t : ℕ) → goes_by next (At t) t ≡ true
   goes_by-self t =
       elim (next t) as (λ o. next t ≡ o → goes_by next (At t) t ≡ true) [
-        | Fan x ↦ λ is. goes_by-fan next falls t x is (At t) ∙ or-left (same (At t) (At t)) false (same-refl (At t))
+        | Fan x ↦ λ is. goes_by-fan next falls t x is (At t) ∙ or_left (same (At t) (At t)) false (same-refl (At t))
         | At p ↦ λ is.
             goes_by-at next falls t p is (At t)
-            ∙ or-left (same (At t) (At t)) (goes_by next (At t) p) (same-refl (At t))
+            ∙ or_left (same (At t) (At t)) (goes_by next (At t) p) (same-refl (At t))
       ] refl
 
   -- a route that goes by c begins with c, or goes by c from the next section on
@@ -27,11 +28,11 @@ module _ (next : ℕ → Place) (falls : Falls next) where
       → (c ≡ t) ⊎ ((p : ℕ) × (next t ≡ At p) × (goes_by next (At c) p ≡ true))
   first-step c t by =
       elim (next t) as (λ o. next t ≡ o → (c ≡ t) ⊎ ((p : ℕ) × (next t ≡ At p) × (goes_by next (At c) p ≡ true))) [
-        | Fan x ↦ λ is. elim (or-cases (same (At c) (At t)) false (sym (goes_by-fan next falls t x is (At c)) ∙ by)) [
+        | Fan x ↦ λ is. elim (or_cases (same (At c) (At t)) false (sym (goes_by-fan next falls t x is (At c)) ∙ by)) [
           | inl here ↦ inl (at-number c t (same-true (At c) (At t) here))
           | inr later ↦ absurd (cc later)
         ]
-        | At p ↦ λ is. elim (or-cases (same (At c) (At t)) (goes_by next (At c) p)
+        | At p ↦ λ is. elim (or_cases (same (At c) (At t)) (goes_by next (At c) p)
             (sym (goes_by-at next falls t p is (At c)) ∙ by)) [
               | inl here ↦ inl (at-number c t (same-true (At c) (At t) here))
               | inr later ↦ inr (p, is, later)
@@ -42,7 +43,7 @@ module _ (next : ℕ → Place) (falls : Falls next) where
   goes_by-next : (o : Place) (c : ℕ) → next c ≡ o → goes_by next o c ≡ true
   goes_by-next (Fan x) c is =
       goes_by-fan next falls c x is (Fan x)
-      ∙ or-right (same (Fan x) (At c)) (same (Fan x) (Fan x)) (same-refl (Fan x))
+      ∙ or_right (same (Fan x) (At c)) (same (Fan x) (Fan x)) (same-refl (Fan x))
   goes_by-next (At s) c is = goes_by-more (At s) c s is (goes_by-self s)
 
   -- and so do the routes that go by such a section
@@ -93,7 +94,7 @@ module _ (next : ℕ → Place) (falls : Falls next) where
             ]
       ])
 
-  -- a route goes by one child of a section at the most
+  -- a route goes by at most one child of a section
   pub only_child : (s c d : ℕ) → next c ≡ At s → next d ≡ At s
       → (t : ℕ) → goes_by next (At c) t ≡ true → goes_by next (At d) t ≡ true → c ≡ d
   only_child s c d child other =

@@ -1,40 +1,23 @@
 -- Equality of places, and tests that gate a number.
-use Rattle.std.proofs.Common.{◌≡◌, ℕ, ◌+◌, Bool, true, false, refl, arith, ap, sym, ◌≢◌, ◌⊎◌, inl, inr, ◌||◌}
+use Rattle.std.proofs.Common.{◌≡◌, ℕ, ◌+◌, Bool, true, false, refl, arith, ap, sym, ◌≢◌, inl, inr, ◌||◌}
+use Rattle.std.proofs.lemmas.Bool.{false_from_ne_true}
 use Rattle.std.proofs.lemmas.Bool.Decides.{nat_tests, eqb_tells}
-use Rattle.duct_units.specs.declared.side.Side.{Side}
-use Rattle.duct_units.specs.declared.side.Side.TheVariants.{Supply, Return}
 use Rattle.tree_sums.specs.Route.{Place, Fan, At, same}
-use Rattle.duct_units.specs.Side.{same_side}
+use Rattle.duct_units.proofs.SideLaws.{same_side-same, same_side-true, same_side-swap}
 use Rattle.tree_sums.specs.Sums.{gated}
 
-same_end-refl : (x : Side) → same_side x x ≡ true
-same_end-refl Supply = refl
-same_end-refl Return = refl
-
-same_end-true : (x y : Side) → same_side x y ≡ true → x ≡ y
-same_end-true Supply Supply is = refl
-same_end-true Return Return is = refl
-same_end-true Supply Return is = cc
-same_end-true Return Supply is = cc
-
-same_end-sym : (x y : Side) → same_side x y ≡ same_side y x
-same_end-sym Supply Supply = refl
-same_end-sym Supply Return = refl
-same_end-sym Return Supply = refl
-same_end-sym Return Return = refl
-
 pub same-refl : (o : Place) → same o o ≡ true
-same-refl (Fan x) = same_end-refl x
+same-refl (Fan x) = same_side-same x
 same-refl (At s) = grind (arith, nat_tests)
 
 pub same-true : (o u : Place) → same o u ≡ true → o ≡ u
-same-true (Fan x) (Fan y) is = ap Fan (same_end-true x y is)
+same-true (Fan x) (Fan y) is = ap Fan (same_side-true x y is)
 same-true (At s) (At t) is = elim (eqb_tells s t) [ inl equal ↦ ap At equal.1 | inr other ↦ cc ]
 same-true (Fan x) (At t) is = cc
 same-true (At s) (Fan y) is = cc
 
 pub same-sym : (o u : Place) → same o u ≡ same u o
-same-sym (Fan x) (Fan y) = same_end-sym x y
+same-sym (Fan x) (Fan y) = same_side-swap x y
 same-sym (At s) (At t) = grind (arith, nat_tests)
 same-sym (Fan x) (At t) = refl
 same-sym (At s) (Fan y) = refl
@@ -42,28 +25,13 @@ same-sym (At s) (Fan y) = refl
 pub at-number : (s t : ℕ) → At s ≡ At t → s ≡ t
 at-number s t is = cc
 
-pub not-true : (b : Bool) → (b ≡ true → ⊥) → b ≡ false
-not-true true never = absurd (never refl)
-not-true false never = refl
-
 pub same-other : (s t : ℕ) → t ≢ s → same (At s) (At t) ≡ false
-same-other s t other = not-true (same (At s) (At t)) (λ is. other (sym (at-number s t (same-true (At s) (At t) is))))
+same-other s t other =
+    false_from_ne_true (same (At s) (At t)) (λ is. other (sym (at-number s t (same-true (At s) (At t) is))))
 
 pub or-false : (b : Bool) → (b || false) ≡ b
 or-false true = refl
 or-false false = refl
-
-pub or-cases : (a b : Bool) → (a || b) ≡ true → (a ≡ true) ⊎ (b ≡ true)
-or-cases true b is = inl refl
-or-cases false b is = inr is
-
-pub or-left : (a b : Bool) → a ≡ true → (a || b) ≡ true
-or-left true b is = refl
-or-left false b is = cc
-
-pub or-right : (a b : Bool) → b ≡ true → (a || b) ≡ true
-or-right true b is = refl
-or-right false b is = is
 
 -- where the two tests are never both true
 pub gated-or : (a b : Bool) (x : ℕ) → (a ≡ true → b ≡ true → ⊥) → gated (a || b) x ≡ gated a x + gated b x

@@ -1,10 +1,11 @@
 -- What lies beyond a place is the place and what lies beyond the sections next to it.
 use Rattle.std.proofs.Common.{◌≡◌, ℕ, ◌+◌, ◌<◌, ◌≤◌, true, false, refl, arith, ap, sym, ◌∙◌, inl, inr, subst, ◌||◌}
+use Rattle.std.proofs.lemmas.Bool.{or_cases}
 use Rattle.duct_units.specs.declared.side.Side.{Side}
 use Rattle.tree_sums.specs.Route.{Place, Fan, At, same, Falls, goes_by}
 use Rattle.tree_sums.specs.Sums.{total, gated, beyond}
 use Rattle.tree_sums.proofs.Climb.{climb, route-fan, route-at}
-use Rattle.tree_sums.proofs.Places.{same-refl, same-true, same-sym, same-other, at-number, or-false, or-cases, gated-or, gated-zero, gated-add}
+use Rattle.tree_sums.proofs.Places.{same-refl, same-true, same-sym, same-other, at-number, or-false, gated-or, gated-zero, gated-add}
 use Rattle.tree_sums.proofs.Totals.{total-one, total-none, total-cong, total-add, total-swap, gated-total}
 
 module _ (next : ℕ → Place) (falls : Falls next) where
@@ -20,11 +21,11 @@ module _ (next : ℕ → Place) (falls : Falls next) where
   pub goes_by-le : (c t : ℕ) → goes_by next (At c) t ≡ true → c ≤ t
   goes_by-le c =
       climb next falls (λ t. goes_by next (At c) t ≡ true → c ≤ t)
-      (λ t x is by. elim (or-cases (same (At c) (At t)) false (sym (goes_by-fan t x is (At c)) ∙ by)) [
+      (λ t x is by. elim (or_cases (same (At c) (At t)) false (sym (goes_by-fan t x is (At c)) ∙ by)) [
         | inl here ↦ let equal = at-number c t (same-true (At c) (At t) here) in omega arith
         | inr later ↦ cc
       ])
-      (λ t p is rest by. elim (or-cases (same (At c) (At t)) (goes_by next (At c) p)
+      (λ t p is rest by. elim (or_cases (same (At c) (At t)) (goes_by next (At c) p)
       (sym (goes_by-at t p is (At c)) ∙ by)) [
         | inl here ↦ let equal = at-number c t (same-true (At c) (At t) here) in omega arith
         | inr later ↦ let below = rest later in let less = falls t p is in omega arith

@@ -204,7 +204,7 @@ pub fn no_return_side()
 {}
 
 /// Within a smaller budget the main section and its branches cost more: main loses 109 dPa and the right branch 283,
-/// so below 392 dPa there is no choice, and the cheaper size of the left branch, which loses 487, wants 596 dPa.
+/// so below 392 dPa there is no choice, and the cheaper size of the left branch, which loses 487, needs 596 dPa.
 pub fn small_system_within_budgets()
     ensures too_little { IsLeast SmallSystem.network 0 0 391 None }
     ensures enough { IsLeast SmallSystem.network 0 0 392 (Some 107400) }

@@ -1,7 +1,7 @@
 use Rattle.std.proofs.Common.{ℕ, refl, arith}
 use Rattle.duct_definitions.specs.Tree.{IsTree}
 use Rattle.least_laws.specs.Least.{IsLeast}
-use Rattle.least_laws.specs.LeastIn.{least_in}
+use Rattle.least_laws.specs.LeastFromChildren.{least_in}
 use Rattle.least_laws.proofs.Leasts.{least_in-is}
 use Rattle.worked_designs.specs.SmallSystem.{network}
 use Rattle.worked_designs.proofs.small_system_within_budgets.Goals as goal

@@ -5,7 +5,7 @@ use Rattle.pareto_front.specs.Front.{cheapest}
 use Rattle.duct_definitions.specs.Network.{size_count, cap}
 use Rattle.duct_units.specs.Prices.{lesser}
 use Rattle.least_laws.specs.Prices.{least_below, with_pair}
-use Rattle.least_laws.specs.LeastIn.{least_in, least_with}
+use Rattle.least_laws.specs.LeastFromChildren.{least_in, least_with}
 use Rattle.contract_join.specs.declared.scratch.Scratch.{Scratch}
 use Rattle.contract_join.specs.SectionFronts.{front_of}
 use Rattle.contract_join.specs.Scratch.{least_in_scratch, IsUpTo}

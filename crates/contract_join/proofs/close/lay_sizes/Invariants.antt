@@ -1,7 +1,7 @@
 use Rattle.std.proofs.Common.{◌≡◌, ℕ, ◌≤◌}
 use Rattle.duct_definitions.specs.Network.{cap}
 use Rattle.least_laws.specs.Prices.{least_below}
-use Rattle.least_laws.specs.LeastIn.{least_in, least_with}
+use Rattle.least_laws.specs.LeastFromChildren.{least_in, least_with}
 use Rattle.contract_join.specs.Scratch.{least_in_scratch, IsUpTo}
 use Rattle.contract_join.proofs.close.lay_sizes.Given as goal
 

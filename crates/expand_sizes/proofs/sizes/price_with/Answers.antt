@@ -4,7 +4,7 @@ use Rattle.duct_definitions.specs.Tree.{children}
 use Rattle.duct_definitions.specs.Network.{pair_at}
 use Rattle.duct_units.specs.Prices.{both_of}
 use Rattle.least_laws.specs.Prices.{sum_of, with_pair}
-use Rattle.least_laws.specs.LeastIn.{least_in}
+use Rattle.least_laws.specs.LeastFromChildren.{least_in}
 use Rattle.least_laws.proofs.WithPair.{with_pair-is}
 use Rattle.expand_sizes.proofs.sizes.price_with.Goals as goal
 

@@ -1,4 +1,4 @@
-use Rattle.least_laws.proofs.Alike.{least_agrees, columns-agree}
+use Rattle.least_laws.proofs.AgreeingNetworks.{least_agrees, columns-agree}
 use Rattle.least_laws.proofs.Exact.{exact_agrees}
 use Rattle.least_laws.proofs.least.least_depends_on_pairs_beyond.Goals as goal
 

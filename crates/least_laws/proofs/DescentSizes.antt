@@ -1,7 +1,7 @@
 -- A design whose sizes are taken first from the fan outwards, as sizes over places.
 use Rattle.std.proofs.Common.{◌≡◌, ℕ, ◌+◌, ◌-◌, ◌<◌, refl, arith, ap, sym, ◌∙◌, subst, Option, Some, None, []}
 use Rattle.std.proofs.lemmas.List.Sums.{sum_by-cons}
-use Rattle.std.specs.Prelude.{IsSome, is_some, slice_index, sum_by}
+use Rattle.std.specs.Prelude.{is_some, slice_index, sum_by}
 use Rattle.duct_units.specs.declared.side.Side.{Side}
 use Rattle.duct_definitions.specs.declared.design.Design.{Design}
 use Rattle.duct_definitions.specs.Tree.{IsTree, section_count, neighbour, side, way}
@@ -10,8 +10,9 @@ use Rattle.duct_definitions.specs.Designs.{size_beside, pair_of, loss_of, path_l
 use Rattle.duct_definitions.proofs.TreeLaws.{earlier}
 use Rattle.duct_definitions.proofs.WayLaws.{way-at_fan, way-beside}
 use Rattle.design_laws.proofs.Ways.{neighbour_side}
-use Rattle.least_laws.specs.LeastIn.{least_in}
+use Rattle.least_laws.specs.LeastFromChildren.{least_in}
 use Rattle.least_laws.specs.Choosing.{Attains, left_beside, IsDescent}
+use Rattle.least_laws.proofs.PriceLaws.{some-there}
 use Rattle.least_laws.proofs.Ducts.{loss, sum_from}
 use Rattle.least_laws.proofs.Optimal.{AttainsSum}
 use Rattle.least_laws.proofs.Descent.{IsLeft, TakesFirst}
@@ -19,10 +20,6 @@ use Rattle.least_laws.proofs.TreePlaces.{neighbour-at, neighbour-fan}
 use Rattle.least_laws.proofs.DuctsOf.{ducts_of, sum_with-least_with, sum_from-least_from}
 use Rattle.least_laws.proofs.Leasts.{least_in-step}
 use Rattle.least_laws.proofs.DesignSizes.{sizes_in, size_at-beside, chosen-pair_of}
-
-pub some-value : (o : Option ℕ) → IsSome o → (v : ℕ) × (o ≡ Some v)
-some-value None is = absurd (cc is)
-some-value (Some v) is = (v, refl)
 
 module _ (net : Network) (tree : IsTree net.tree) where
   -- the least that a sum over places gives is the one of the recursion
@@ -35,7 +32,7 @@ module _ (net : Network) (tree : IsTree net.tree) where
       → AttainsSum (ducts_of net) (least_in net) s g b k
   attains-sum s g b k within beside attains =
       let at = sum_from-least_in s g b within beside in
-      let some = some-value (least_in net s g b) attains.there in (
+      let some = some-there (least_in net s g b) attains.there in (
         attains.in_range,
         sum_with-least_with net (least_in net) s g b k ∙ attains.equal ∙ sym at,
         (some.0, at ∙ some.1),

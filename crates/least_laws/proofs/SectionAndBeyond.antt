@@ -1,4 +1,5 @@
--- Some end lies beyond each section, so a section loses no more than its budget.
+-- A section and what lies beyond it: some end lies beyond each section, so a section loses no more than its budget; and
+-- the prices are the section's and those beyond its children.
 use Rattle.std.proofs.Common.{◌≡◌, ℕ, zero, suc, ◌+◌, ◌<◌, ◌≤◌, true, false, refl, arith, ap, sym, ◌∙◌, ◌≢◌, ◌⊎◌, inl, inr}
 use Rattle.std.proofs.lemmas.Bool.Decides.{eqb_tells}
 use Rattle.tree_sums.specs.Route.{Place, At, same, Falls, goes_by}

@@ -14,9 +14,9 @@ use Rattle.least_laws.proofs.Ducts.{Ducts, size_at, loss, price, IsBeside, IsSiz
 use Rattle.least_laws.proofs.LeastBelow.{value, least_below-none, least_below-some}
 use Rattle.least_laws.proofs.Joined.{IsJoined, joined-none, joined-some}
 use Rattle.least_laws.proofs.WithPair.{with_pair-is, made}
-use Rattle.least_laws.proofs.Ends.{loss-fits, price_sum-split}
+use Rattle.least_laws.proofs.SectionAndBeyond.{loss-fits, price_sum-split}
 use Rattle.least_laws.proofs.Combine.{combined, combined-beside}
-use Rattle.least_laws.proofs.Step.{sizing-child, AreSizings, combined-sizing, combined-price}
+use Rattle.least_laws.proofs.ChildSizings.{sizing-child, AreSizings, combined-sizing, combined-price}
 
 -- a sizing costs at least y, which its size at s gives
 pub record IsBound (net : Ducts) (leasts : ℕ → ℕ → ℕ → Option ℕ) (s g b : ℕ) (f : ℕ → ℕ) : Type 0 where
