@@ -1,6 +1,6 @@
 use Rattle.std.proofs.Common.{◌≡◌, [], length, List, ℕ, ap, ◌∙◌, arith}
 use Rattle.std.proofs.lemmas.List.FromFn.{length-map-range_with_len}
-use Rattle.std.specs.Prelude.{◌==◌, filter}
+use Rattle.std.specs.Prelude.{filter}
 use Rattle.std.specs.List.{range_with_len}
 use Rattle.duct_definitions.specs.Tree.{Tree, children, is_leaf}
 use Rattle.air_tree.proofs.FilledLists.{chosen-yes, chosen-no, leaf-here}
