@@ -13,7 +13,8 @@ use Rattle.air_tree.proofs.ListLaws.{child_list_at}
 use Rattle.air_tree.specs.TreeLists.{neighbour_in, StandEarlier, children_among}
 
 -- each place has what f makes of the children among the first sections
-pub record AreFilled {X : Type 0} (f : List ℕ → X) (none : X) (done : ℕ) (neighbours : List (Option ℕ)) (xs : List X) : Type 0 where
+pub record AreFilled {X : Type 0} (f : List ℕ → X) (none : X) (done : ℕ) (neighbours : List (Option ℕ))
+    (xs : List X) : Type 0 where
   pub count : length xs ≡ length neighbours
   pub each : (n : ℕ) → n < length neighbours → get_or xs n none ≡ f (children_among done neighbours n)
 
@@ -36,7 +37,8 @@ stands_earlier neighbours s n earlier within at =
 
 -- one section more, and it stands at the fan
 pub filled-at_fan : {X : Type 0} (f : List ℕ → X) (none : X) (done : ℕ) (neighbours : List (Option ℕ)) (xs : List X)
-    → ((x : ℕ) → get_or neighbours done None ≡ Some x → ⊥) → AreFilled f none done neighbours xs → AreFilled f none (done + 1) neighbours xs
+    → ((x : ℕ) → get_or neighbours done None ≡ Some x → ⊥) → AreFilled f none done neighbours xs
+    → AreFilled f none (done + 1) neighbours xs
 filled-at_fan f none done neighbours xs at filled = record {
   count = filled.count;
   each = λ n within.
@@ -49,20 +51,24 @@ filled-at_fan f none done neighbours xs at filled = record {
 }
 
 -- one section more, which is a child of s
-pub filled-push : {X : Type 0} (f : List ℕ → X) (none : X) (done : ℕ) (neighbours : List (Option ℕ)) (xs : List X) (s : ℕ) (x : X)
-    → get_or neighbours done None ≡ Some s → s < length neighbours → x ≡ f (children_among done neighbours s ++ done ∷ [])
+pub filled-push : {X : Type 0} (f : List ℕ → X) (none : X) (done : ℕ) (neighbours : List (Option ℕ)) (xs : List X)
+    (s : ℕ) (x : X)
+    → get_or neighbours done None ≡ Some s → s < length neighbours
+    → x ≡ f (children_among done neighbours s ++ done ∷ [])
     → AreFilled f none done neighbours xs → AreFilled f none (done + 1) neighbours (set xs s x)
 filled-push f none done neighbours xs s x at in_range is filled = record {
   count = length-set xs s x ∙ filled.count;
   each = λ n within.
       let here : neighbour_in neighbours done ≡ Some s = unwrap_or-slice_get neighbours done None ∙ at in
-      let more : children_among (done + 1) neighbours n ≡ children_among done neighbours n ++ cond (s == n) (done ∷ []) [] =
+      let more : children_among (done + 1) neighbours n ≡ children_among done neighbours n ++ cond (s == n)
+      (done ∷ []) [] =
       chosen-push (λ c. is_number n (neighbour_in neighbours c)) done
       ∙ ap (λ o. children_among done neighbours n ++ cond (is_number n o) (done ∷ []) []) here in
       elim (cases_eq n s) [
         | inl same ↦
             let long : s < length xs = omega (arith, filled.count) in
-            let found : get_or (set xs s x) n none ≡ x = ap (λ m. get_or (set xs s x) m none) same ∙ get_or-set_same xs s x none long in
+            let found : get_or (set xs s x) n none ≡ x = ap (λ m. get_or (set xs s x) m none) same ∙
+            get_or-set_same xs s x none long in
             let test : (s == n) ≡ true = eq-eqb s n (sym same) in
             found ∙ is ∙ ap (λ m. f (children_among done neighbours m ++ done ∷ [])) (sym same)
             ∙ ap (λ b. f (children_among done neighbours n ++ cond b (done ∷ []) [])) (sym test)
@@ -81,7 +87,8 @@ pub filled-all : {X : Type 0} (f : List ℕ → X) (none : X) (neighbours : List
     → AreFilled f none (length neighbours) neighbours xs
     → xs ≡ map (λ n. f (children_among (length neighbours) neighbours n)) (range_with_len 0 (length neighbours))
 filled-all f none neighbours xs filled =
-    fill_by_all (λ n. f (children_among (length neighbours) neighbours n)) xs (length neighbours) none filled.count filled.each
+    fill_by_all (λ n. f (children_among (length neighbours) neighbours n)) xs (length neighbours) none filled.count
+    filled.each
 
 -- nothing is done yet
 pub filled-none : {Y : Type 0} (neighbours : List (Option ℕ)) (ys : List Y) (xs : List (List ℕ))
@@ -98,11 +105,13 @@ read-map f values n value within is =
     let in_map : n < length (map f values) = omega (arith, length-map values f) in
     get_or_read (map f values) n (f value) in_map (ap f is ∙ sym (get_or-map f values n value (f value) within)) []
 
--- out of n sections there are n children at the most
-pub children_among-few : (done : ℕ) (neighbours : List (Option ℕ)) (s : ℕ) → length (children_among done neighbours s) ≤ done
+-- out of n sections there are at most n children
+pub children_among-few : (done : ℕ) (neighbours : List (Option ℕ)) (s : ℕ)
+    → length (children_among done neighbours s) ≤ done
 children_among-few done neighbours s =
     let test : ℕ → Bool = λ c. is_number s (neighbour_in neighbours c) in
-    let count : length (children_among done neighbours s) ≡ count_by test (range_with_len 0 done) = length-filter test (range_with_len 0 done) in
+    let count : length (children_among done neighbours s) ≡ count_by test (range_with_len 0 done) = length-filter
+    test (range_with_len 0 done) in
     let most = count_by-le-length test (range_with_len 0 done) in
     let long = length-range_with_len 0 done in
     omega arith
@@ -111,7 +120,8 @@ children_among-few done neighbours s =
 pub chosen-yes : (test : ℕ → Bool) (s : ℕ) (xs : List ℕ) → xs ≡ filter test (range_with_len 0 s) → test s ≡ true
     → xs ++ s ∷ [] ≡ filter test (range_with_len 0 (s + 1))
 chosen-yes test s xs are is =
-    ap (λ ys. ys ++ s ∷ []) are ∙ ap (λ b. filter test (range_with_len 0 s) ++ cond b (s ∷ []) []) (sym is) ∙ sym (chosen-push test s)
+    ap (λ ys. ys ++ s ∷ []) are ∙ ap (λ b. filter test (range_with_len 0 s) ++ cond b (s ∷ []) []) (sym is) ∙ sym
+    (chosen-push test s)
 
 pub chosen-no : (test : ℕ → Bool) (s : ℕ) (xs : List ℕ) → xs ≡ filter test (range_with_len 0 s) → test s ≡ false
     → xs ≡ filter test (range_with_len 0 (s + 1))

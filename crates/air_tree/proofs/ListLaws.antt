@@ -15,10 +15,12 @@ use Rattle.duct_definitions.proofs.SectionLists.{chosen_rising, chosen_below, ch
 pub child_list_at : (t : Tree) (lists : List (List ℕ)) (s : ℕ) (d : List ℕ)
     → lists ≡ map (children t) (sections t) → s < section_count t → get_or lists s d ≡ children t s
 child_list_at t lists s d are within =
-    ap (λ all. get_or all s d) are ∙ get_or-map-range_with_len (children t) 0 (section_count t) s s d within (omega arith)
+    ap (λ all. get_or all s d) are ∙ get_or-map-range_with_len (children t) 0 (section_count t) s s d within
+    (omega arith)
 
 pub child_list : (t : Tree) (lists : List (List ℕ)) (s : ℕ) (found : List ℕ)
-    → lists ≡ map (children t) (sections t) → s < section_count t → found ≡ get_or lists s found → found ≡ children t s
+    → lists ≡ map (children t) (sections t) → s < section_count t → found ≡ get_or lists s found
+    → found ≡ children t s
 child_list t lists s found are within at = at ∙ child_list_at t lists s found are within
 
 pub child_list_within : (t : Tree) (lists : List (List ℕ)) (s : ℕ)
@@ -64,7 +66,8 @@ pub are_leaves : (t : Tree) (xs : List ℕ) → xs ≡ all_leaves t → AreLeave
 are_leaves t xs is = record {
   value = is;
   rising = subst (λ (ys : List ℕ). IsStrictlyIncreasing ys) (sym is) (chosen_rising _ (section_count t));
-  leaves = subst (λ (ys : List ℕ). All (λ s. IsTrue (is_leaf t s)) ys) (sym is) (chosen_pass (is_leaf t) (section_count t));
+  leaves = subst (λ (ys : List ℕ). All (λ s. IsTrue (is_leaf t s)) ys) (sym is)
+      (chosen_pass (is_leaf t) (section_count t));
   sections = subst (λ (ys : List ℕ). All (λ s. s < section_count t) ys) (sym is) (chosen_below _ (section_count t));
 }
 

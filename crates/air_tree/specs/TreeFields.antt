@@ -4,6 +4,7 @@ use Rattle.duct_units.specs.declared.side.Side.TheVariants.{Supply, Return}
 use Rattle.duct_definitions.specs.Tree.{Tree, IsTree, sections, children, all_leaves, roots}
 use Rattle.air_tree.specs.declared.tree.AirTree.TheInside.{Inside}
 
+-- the tree of these neighbours and sides
 abbrev pub tree_of : Inside → Tree
 tree_of a = record { neighbours = a.neighbours; sides = a.sides }
 

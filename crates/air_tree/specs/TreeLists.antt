@@ -7,6 +7,7 @@ use Rattle.std.specs.Prelude.{ℕ, ◌<◌, List, filter, length, map, Option, N
 use Rattle.std.specs.List.{range_with_len}
 use Rattle.duct_definitions.specs.Tree.{is_number}
 
+-- the neighbour of section s in this list, or none
 abbrev pub neighbour_in : List (Option ℕ) → ℕ → Option ℕ
 neighbour_in neighbours s = unwrap_or (slice_get neighbours s) None
 
@@ -18,9 +19,11 @@ StandEarlier neighbours = (s : ℕ) → s < length neighbours → IfSome (neighb
 abbrev pub children_among : ℕ → List (Option ℕ) → ℕ → List ℕ
 children_among n neighbours s = filter (λ c. is_number s (neighbour_in neighbours c)) (range_with_len 0 n)
 
+-- the children of each section
 abbrev pub lists_of : List (Option ℕ) → List (List ℕ)
 lists_of neighbours = map (children_among (length neighbours) neighbours) (range_with_len 0 (length neighbours))
 
+-- how many children each section has
 abbrev pub counts_of : List (Option ℕ) → List ℕ
 counts_of neighbours =
     map (λ s. length (children_among (length neighbours) neighbours s)) (range_with_len 0 (length neighbours))

@@ -40,19 +40,25 @@ pub worst_found : (net : Network) (d : Design) (x : Side) (t : Tree) (losses : L
 worst_found net d x t losses found same each is =
     is
     ∙ ap (λ (u : Tree). greatest_at losses (leaves u x)) same
-    ∙ greatest_at-each losses (path_loss net d) 0 (leaves net.tree x) (λ s among. each.each s (leaf_within net.tree x s among))
+    ∙ greatest_at-each losses (path_loss net d) 0 (leaves net.tree x)
+    (λ s among. each.each s (leaf_within net.tree x s among))
 
-slack_at : (net : Network) (d : Design) (slacks : List ℕ) (s : ℕ) → IsTree net.tree → ListsEach net.tree (slack net d) slacks
-    → s < section_count net.tree → at_neighbour (slice_index slacks) (neighbour net.tree s) ≡ slack_beside net d (neighbour net.tree s)
+slack_at : (net : Network) (d : Design) (slacks : List ℕ) (s : ℕ) → IsTree net.tree
+    → ListsEach net.tree (slack net d) slacks
+    → s < section_count net.tree → at_neighbour (slice_index slacks) (neighbour net.tree s) ≡ slack_beside net d
+    (neighbour net.tree s)
 slack_at net d slacks s tree each within =
-    elim (neighbour net.tree s) as (λ (o : Option ℕ). neighbour net.tree s ≡ o → at_neighbour (slice_index slacks) o ≡ slack_beside net d o) [
+    elim (neighbour net.tree s) as (λ (o : Option ℕ). neighbour net.tree s ≡ o → at_neighbour (slice_index slacks)
+    o ≡ slack_beside net d o) [
       | None ↦ λ next. refl
       | Some n ↦ λ next. let low = earlier net.tree s n tree within next in each.each n (omega arith)
     ] refl
 
 -- no neighbour has more slack
-pub slacks_fit : (net : Network) (d : Design) (slacks : List ℕ) → IsTree net.tree → ListsEach net.tree (slack net d) slacks
-    → (s : ℕ) → s < section_count net.tree → at_neighbour (slice_index slacks) (neighbour net.tree s) ≤ slice_index slacks s
+pub slacks_fit : (net : Network) (d : Design) (slacks : List ℕ) → IsTree net.tree
+    → ListsEach net.tree (slack net d) slacks
+    → (s : ℕ) → s < section_count net.tree
+    → at_neighbour (slice_index slacks) (neighbour net.tree s) ≤ slice_index slacks s
 slacks_fit net d slacks tree each s within =
     let own : slice_index slacks s ≡ slack net d s = each.each s within in
     let beside = slack_at net d slacks s tree each within in

@@ -33,7 +33,8 @@ paths_leave_slack net d valid meets x leaf of_side =
 pub slack_beside-le : (net : Network) (d : Design) (s : ℕ) → IsTree net.tree → s < section_count net.tree
     → slack_beside net d (neighbour net.tree s) ≤ slack net d s
 slack_beside-le net d s tree within =
-    elim (neighbour net.tree s) as (λ (o : Option ℕ). neighbour net.tree s ≡ o → slack_beside net d o ≤ slack net d s) [
+    elim (neighbour net.tree s) as (λ (o : Option ℕ). neighbour net.tree s ≡ o → slack_beside net d o ≤ slack net d
+    s) [
       | None ↦ λ next. omega arith
       | Some n ↦ λ next. slack_rises net d s n tree within next
     ] refl
@@ -46,7 +47,8 @@ dampers_take_slack net d valid meets s within =
 least_of-bound : (f : ℕ → ℕ) (most : ℕ) (xs : List ℕ) → ((x : ℕ) → f x ≤ most) → least_of (map f xs) ≤ most
 least_of-bound f most [] each = omega arith
 least_of-bound f most (x ∷ []) each = each x
-least_of-bound f most (x ∷ y ∷ ys) each = let low = each x in let others : ℕ = least_of (map f (y ∷ ys)) in omega arith
+least_of-bound f most (x ∷ y ∷ ys) each = let low = each x in let others : ℕ = least_of (map f (y ∷ ys)) in omega
+    arith
 
 head_with-le : (net : Network) (d : Design) (o : Option ℕ) → Covers net d o
     → head_with net d o Return ≤ return_pressure net d.fan o
@@ -71,8 +73,10 @@ within_pressure net d meets = record {
   damper = λ s.
       let pressure : ℕ = pressure_on net d (side net.tree s) in
       less_is_less (slack net d s) (slack_beside net d (neighbour net.tree s)) pressure
-      (least_of-bound (λ leaf. head net d (side net.tree s) - path_loss net d leaf) pressure (leaves_beyond net.tree s)
-      (λ leaf. less_is_less (head net d (side net.tree s)) (path_loss net d leaf) pressure (head-le net d (side net.tree s) meets)));
+      (least_of-bound (λ leaf. head net d (side net.tree s) - path_loss net d leaf) pressure
+      (leaves_beyond net.tree s)
+      (λ leaf. less_is_less (head net d (side net.tree s)) (path_loss net d leaf) pressure
+      (head-le net d (side net.tree s) meets)));
 }
 
 sum_by-each : (f g : ℕ → ℕ) (xs : List ℕ) → ((x : ℕ) → Among x xs → f x ≡ g x) → sum_by f xs ≡ sum_by g xs
@@ -85,37 +89,45 @@ sum_by-each f g (x ∷ xs) each =
     omega arith
 
 -- the sections of a way are sections of the tree
-way_within_tree : (t : Tree) (leaf s : ℕ) → IsTree t → leaf < section_count t → Among s (way t leaf) → s < section_count t
+way_within_tree : (t : Tree) (leaf s : ℕ) → IsTree t → leaf < section_count t → Among s (way t leaf)
+    → s < section_count t
 way_within_tree t leaf s tree within among =
     along_way t tree (λ y. y < section_count t)
     (λ y n inside next _. let before = earlier t y n tree inside next in omega arith)
     (suc leaf) leaf (omega arith) within within s among
 
 -- a path takes with the dampers that are found what it takes with the dampers
-loss_with-is : (net : Network) (d : Design) (found : Dampers) (leaf : ℕ) → IsTree net.tree → leaf < section_count net.tree
+loss_with-is : (net : Network) (d : Design) (found : Dampers) (leaf : ℕ) → IsTree net.tree
+    → leaf < section_count net.tree
     → AreDampers net d found → loss_with net d found leaf ≡ throttled_loss net d leaf
 loss_with-is net d found leaf tree within are =
-    sum_by-each (λ s. loss_of (pair_of net d s) + slice_index found.damper s) (λ s. loss_of (pair_of net d s) + damper net d s)
+    sum_by-each (λ s. loss_of (pair_of net d s) + slice_index found.damper s)
+    (λ s. loss_of (pair_of net d s) + damper net d s)
     (way net.tree leaf)
-    (λ s among. ap (λ (n : ℕ). loss_of (pair_of net d s) + n) (are.damper.each s (way_within_tree net.tree leaf s tree within among)))
+    (λ s among. ap (λ (n : ℕ). loss_of (pair_of net d s) + n)
+    (are.damper.each s (way_within_tree net.tree leaf s tree within among)))
 
-head_is : (net : Network) (d : Design) (found : Dampers) (x : Side) → AreDampers net d found → head_found found x ≡ head net d x
+head_is : (net : Network) (d : Design) (found : Dampers) (x : Side) → AreDampers net d found
+    → head_found found x ≡ head net d x
 head_is net d found Supply are = are.supply_head
 head_is net d found Return are = are.return_head
 
 -- where paths take a pressure with the dampers they do so with those that are found
-found_take : (net : Network) (d : Design) (found : Dampers) (x : Side) (pressure : ℕ) → IsTree net.tree → AreDampers net d found
+found_take : (net : Network) (d : Design) (found : Dampers) (x : Side) (pressure : ℕ) → IsTree net.tree
+    → AreDampers net d found
     → PathsTake net d x pressure → FoundTake net d found x pressure
 found_take net d found x pressure tree are take leaf of_side =
     loss_with-is net d found leaf tree (is_within net.tree leaf of_side.leaf) are ∙ take leaf of_side
 
-pub found_take_heads : (net : Network) (d : Design) (found : Dampers) → IsNetwork net → Meets net d → AreDampers net d found
+pub found_take_heads : (net : Network) (d : Design) (found : Dampers) → IsNetwork net → Meets net d
+    → AreDampers net d found
     → FoundTakeHeads net d found
 found_take_heads net d found valid meets are x =
     subst (FoundTake net d found x) (sym (head_is net d found x are))
     (found_take net d found x (head net d x) valid.tree are (paths_take_heads net d valid meets x))
 
-balanced_with : (net : Network) (d : Design) (found : Dampers) (o : Option ℕ) → IsTree net.tree → AreDampers net d found
+balanced_with : (net : Network) (d : Design) (found : Dampers) (o : Option ℕ) → IsTree net.tree
+    → AreDampers net d found
     → IsBalancedWith net d o → FoundBalancedWith net d found o
 balanced_with net d found None tree are balanced = record {
   both = λ supply back of_supply of_return.
@@ -131,9 +143,11 @@ balanced_with net d found (Some i) tree are balanced = record {
   back = found_take net d found Return (return_fan_at net i).pressure tree are balanced.back;
 }
 
-pub found_balanced : (net : Network) (d : Design) (found : Dampers) → IsNetwork net → Meets net d → AreDampers net d found
+pub found_balanced : (net : Network) (d : Design) (found : Dampers) → IsNetwork net → Meets net d
+    → AreDampers net d found
     → IsFoundBalanced net d found
-found_balanced net d found valid meets are = balanced_with net d found d.back valid.tree are (paths_balanced net d valid meets)
+found_balanced net d found valid meets are = balanced_with net d found d.back valid.tree are
+    (paths_balanced net d valid meets)
 
 pub ruleset of_slacks = (paths_leave_slack, dampers_take_slack)
 

@@ -22,10 +22,12 @@ child_is t s c among =
 
 pub is_child : (t : Tree) (s c : ℕ) → c < section_count t → neighbour t c ≡ Some s → Among c (children t s)
 is_child t s c within next =
-    Among-filter (λ x. is_number s (neighbour t x)) c (sections t) (Among-range 0 (section_count t) c (omega arith) (omega arith))
+    Among-filter (λ x. is_number s (neighbour t x)) c (sections t)
+    (Among-range 0 (section_count t) c (omega arith) (omega arith))
     (rw next (eq-eqb s s refl))
 
-pub leaf_or_child : (t : Tree) (s : ℕ) → s < section_count t → (is_leaf t s ≡ true) ⊎ ((c : ℕ) × Among c (children t s))
+pub leaf_or_child : (t : Tree) (s : ℕ) → s < section_count t
+    → (is_leaf t s ≡ true) ⊎ ((c : ℕ) × Among c (children t s))
 leaf_or_child t s within =
     elim (children t s) as
     (λ (cs : List ℕ). ((nat_lt s (section_count t) && length cs == 0) ≡ true) ⊎ ((c : ℕ) × Among c cs)) [
@@ -34,7 +36,8 @@ leaf_or_child t s within =
     ]
 
 -- what is beyond a child is beyond the section
-pub IsBeyond-neighbour : (t : Tree) (s c leaf : ℕ) → IsTree t → Among c (children t s) → IsBeyond t c leaf → IsBeyond t s leaf
+pub IsBeyond-neighbour : (t : Tree) (s c leaf : ℕ) → IsTree t → Among c (children t s) → IsBeyond t c leaf
+    → IsBeyond t s leaf
 IsBeyond-neighbour t s c leaf tree child beyond =
     let (within, next) = child_is t s c child in
     record {
@@ -43,7 +46,8 @@ IsBeyond-neighbour t s c leaf tree child beyond =
       passed = goes_on t leaf c s tree (is_within t leaf beyond.is) beyond.passed next;
     }
 
-beyond_within : (t : Tree) → IsTree t → (k s : ℕ) → section_count t ≤ s + k → s < section_count t → (leaf : ℕ) × IsBeyond t s leaf
+beyond_within : (t : Tree) → IsTree t → (k s : ℕ) → section_count t ≤ s + k → s < section_count t
+    → (leaf : ℕ) × IsBeyond t s leaf
 beyond_within t tree zero s last within = absurd (omega arith)
 beyond_within t tree (suc k) s last within =
     elim (leaf_or_child t s within) [
@@ -71,7 +75,11 @@ child_before t s c leaf tree child beyond =
     let within = is_within t leaf beyond.is in
     let found : IsPassed t leaf s =
     along_way t tree (IsPassed t leaf)
-    (λ y n inside next held. (goes_on t leaf y n tree within held.0 next, inr (y, (is_child t n y inside next, held.0))))
+    (λ y n inside next held. (
+      goes_on t leaf y n tree within held.0 next,
+      inr
+          (y, (is_child t n y inside next, held.0)),
+    ))
     (suc leaf) leaf (omega arith) within (inl refl, inl refl) s beyond.passed in
     elim found.1 [
       | inl same ↦

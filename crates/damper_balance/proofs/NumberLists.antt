@@ -31,25 +31,29 @@ set_is : (f : ℕ → ℕ) (numbers : List ℕ) (k number s : ℕ) → k < lengt
     → (s ≢ k → get_or numbers s 0 ≡ f s) → get_or (set numbers k number) s 0 ≡ f s
 set_is f numbers k number s here is others =
     elim (cases_eq s k) [
-      | inl same ↦ subst (λ (j : ℕ). get_or (set numbers k number) j 0 ≡ f j) (sym same) (get_or-set_same numbers k number 0 here ∙ is)
+      | inl same ↦ subst (λ (j : ℕ). get_or (set numbers k number) j 0 ≡ f j) (sym same)
+          (get_or-set_same numbers k number 0 here ∙ is)
       | inr other ↦ get_or-set_other numbers k s number 0 other ∙ others other
     ]
 
 -- one number more, on the way up
 pub written-up : (t : Tree) (before after : ℕ → ℕ) (k : ℕ) (numbers : List ℕ) (number : ℕ) → k < section_count t
-    → IsWrittenTo t before after k numbers → number ≡ before k → IsWrittenTo t before after (k + 1) (set numbers k number)
+    → IsWrittenTo t before after k numbers → number ≡ before k
+    → IsWrittenTo t before after (k + 1) (set numbers k number)
 written-up t before after k numbers number within to is =
     let count = to.count in
     record {
       count = length-set numbers k number ∙ to.count;
-      first = λ s low inside. set_is before numbers k number s (omega arith) is (λ other. to.first s (omega arith) inside);
+      first = λ s low inside. set_is before numbers k number s (omega arith) is
+          (λ other. to.first s (omega arith) inside);
       rest = λ s high inside.
           let other : s ≢ k = omega arith in
           get_or-set_other numbers k s number 0 other ∙ to.rest s (omega arith) inside;
     }
 
 -- one number more, on the way down
-pub written-down : (t : Tree) (before after : ℕ → ℕ) (j k : ℕ) (numbers : List ℕ) (number : ℕ) → k < section_count t → j ≡ k + 1
+pub written-down : (t : Tree) (before after : ℕ → ℕ) (j k : ℕ) (numbers : List ℕ) (number : ℕ)
+    → k < section_count t → j ≡ k + 1
     → IsWrittenTo t before after j numbers → number ≡ after k → IsWrittenTo t before after k (set numbers k number)
 written-down t before after j k numbers number within next to is =
     let count = to.count in
@@ -58,7 +62,8 @@ written-down t before after j k numbers number within next to is =
       first = λ s low inside.
           let other : s ≢ k = omega arith in
           get_or-set_other numbers k s number 0 other ∙ to.first s (omega arith) inside;
-      rest = λ s high inside. set_is after numbers k number s (omega arith) is (λ other. to.rest s (omega arith) inside);
+      rest = λ s high inside. set_is after numbers k number s (omega arith) is
+          (λ other. to.rest s (omega arith) inside);
     }
 
 pub all_before : (t : Tree) (before after : ℕ → ℕ) (k : ℕ) (numbers : List ℕ) → section_count t ≤ k
@@ -76,7 +81,8 @@ none_after t before after numbers all = record {
   rest = λ s high within. absurd (omega arith);
 }
 
-pub all_after : (t : Tree) (before after : ℕ → ℕ) (numbers : List ℕ) → IsWrittenTo t before after 0 numbers → ListsEach t after numbers
+pub all_after : (t : Tree) (before after : ℕ → ℕ) (numbers : List ℕ) → IsWrittenTo t before after 0 numbers
+    → ListsEach t after numbers
 all_after t before after numbers to = record {
   count = to.count;
   each = λ s within. to.rest s (omega arith) within;
@@ -106,7 +112,8 @@ greatest_of_side t x numbers =
     fold-greater (is_of t x) numbers 0 (all_leaves t)
     ∙ ap (λ ss. fold max 0 (map (λ s. slice_index numbers s) ss)) (leaves_of_side t x)
 
-pub greatest_at-each : (numbers : List ℕ) (f : ℕ → ℕ) (most : ℕ) (ss : List ℕ) → ((s : ℕ) → Among s ss → slice_index numbers s ≡ f s)
+pub greatest_at-each : (numbers : List ℕ) (f : ℕ → ℕ) (most : ℕ) (ss : List ℕ)
+    → ((s : ℕ) → Among s ss → slice_index numbers s ≡ f s)
     → fold max most (map (λ s. slice_index numbers s) ss) ≡ fold max most (map f ss)
 greatest_at-each numbers f most [] each = refl
 greatest_at-each numbers f most (s ∷ ss) each =
@@ -117,7 +124,8 @@ least_of-first : (a b : ℕ) (rest : List ℕ) → least_of (min a b ∷ rest) �
 least_of-first a b [] = refl
 least_of-first a b (c ∷ rest) = let others : ℕ = least_of (c ∷ rest) in omega arith
 
-least_from : (numbers : List ℕ) (f : ℕ → ℕ) (a : ℕ) (ss : List ℕ) → ((s : ℕ) → Among s ss → slice_index numbers s ≡ f s)
+least_from : (numbers : List ℕ) (f : ℕ → ℕ) (a : ℕ) (ss : List ℕ)
+    → ((s : ℕ) → Among s ss → slice_index numbers s ≡ f s)
     → fold (λ least s. lesser least (Some (slice_index numbers s))) (Some a) ss ≡ Some (least_of (a ∷ map f ss))
 least_from numbers f a [] each = refl
 least_from numbers f a (s ∷ ss) each =
@@ -125,7 +133,8 @@ least_from numbers f a (s ∷ ss) each =
     ∙ ap (λ b. Some (least_of (min a b ∷ map f ss))) (each s (inl refl))
     ∙ ap Some (least_of-first a (f s) (map f ss))
 
-pub least_at-each : (numbers : List ℕ) (f : ℕ → ℕ) (s : ℕ) (ss : List ℕ) → ((x : ℕ) → Among x (s ∷ ss) → slice_index numbers x ≡ f x)
+pub least_at-each : (numbers : List ℕ) (f : ℕ → ℕ) (s : ℕ) (ss : List ℕ)
+    → ((x : ℕ) → Among x (s ∷ ss) → slice_index numbers x ≡ f x)
     → least_at numbers (s ∷ ss) ≡ Some (least_of (map f (s ∷ ss)))
 least_at-each numbers f s ss each =
     least_from numbers f (slice_index numbers s) ss (λ x later. each x (inr later))

@@ -17,10 +17,13 @@ use Rattle.damper_balance.proofs.Slacks.{slack-leaf, slack-inner, path-le-head}
 use Rattle.damper_balance.proofs.NumberLists.{IsWrittenTo, written-down, least_at-each}
 
 -- a neighbour stands earlier, so a walk that has come to its section has its first number
-pub number_beside : (t : Tree) (before after : ℕ → ℕ) (j s : ℕ) (numbers : List ℕ) → IsTree t → s < section_count t → s ≤ j
-    → IsWrittenTo t before after j numbers → at_neighbour (slice_index numbers) (neighbour t s) ≡ at_neighbour before (neighbour t s)
+pub number_beside : (t : Tree) (before after : ℕ → ℕ) (j s : ℕ) (numbers : List ℕ) → IsTree t → s < section_count t
+    → s ≤ j
+    → IsWrittenTo t before after j numbers
+    → at_neighbour (slice_index numbers) (neighbour t s) ≡ at_neighbour before (neighbour t s)
 number_beside t before after j s numbers tree within first to =
-    elim (neighbour t s) as (λ (o : Option ℕ). neighbour t s ≡ o → at_neighbour (slice_index numbers) o ≡ at_neighbour before o) [
+    elim (neighbour t s) as (λ (o : Option ℕ). neighbour t s ≡ o
+    → at_neighbour (slice_index numbers) o ≡ at_neighbour before o) [
       | None ↦ λ next. refl
       | Some n ↦ λ next. let low = earlier t s n tree within next in to.first n (omega arith) (omega arith)
     ] refl
@@ -29,26 +32,32 @@ pub path_loss-beside : (net : Network) (d : Design) (s : ℕ) → IsNetwork net 
     → path_loss net d s ≡ loss_of (pair_of net d s) + at_neighbour (path_loss net d) (neighbour net.tree s)
 path_loss-beside net d s valid within =
     let loss : ℕ → ℕ = λ x. loss_of (pair_of net d x) in
-    let rest : sum_by loss (from_neighbour (way net.tree) (neighbour net.tree s)) ≡ at_neighbour (path_loss net d) (neighbour net.tree s) =
-    elim (neighbour net.tree s) as (λ (o : Option ℕ). sum_by loss (from_neighbour (way net.tree) o) ≡ at_neighbour (path_loss net d) o) [
+    let rest : sum_by loss (from_neighbour (way net.tree) (neighbour net.tree s)) ≡ at_neighbour (path_loss net d)
+    (neighbour net.tree s) =
+    elim (neighbour net.tree s) as (λ (o : Option ℕ). sum_by loss (from_neighbour (way net.tree) o) ≡ at_neighbour
+    (path_loss net d) o) [
       | None ↦ refl
       | Some n ↦ refl
     ] in
     path_loss-first net d s valid within ∙ ap (λ (n : ℕ). loss s + n) rest
 
-pub next_loss : (net : Network) (d : Design) (after : ℕ → ℕ) (s : ℕ) (losses : List ℕ) (loss beside : ℕ) → IsNetwork net
-    → s < section_count net.tree → IsWrittenTo net.tree (path_loss net d) after s losses → loss ≡ loss_of (pair_of net d s)
+pub next_loss : (net : Network) (d : Design) (after : ℕ → ℕ) (s : ℕ) (losses : List ℕ) (loss beside : ℕ)
+    → IsNetwork net
+    → s < section_count net.tree → IsWrittenTo net.tree (path_loss net d) after s losses
+    → loss ≡ loss_of (pair_of net d s)
     → beside ≡ at_neighbour (slice_index losses) (neighbour net.tree s) → loss + beside ≡ path_loss net d s
 next_loss net d after s losses loss beside valid within to own is =
     let next = is ∙ number_beside net.tree (path_loss net d) after s s losses valid.tree within (omega arith) to in
-    ap (λ (n : ℕ). n + beside) own ∙ ap (λ (n : ℕ). loss_of (pair_of net d s) + n) next ∙ sym (path_loss-beside net d s valid within)
+    ap (λ (n : ℕ). n + beside) own ∙ ap (λ (n : ℕ). loss_of (pair_of net d s) + n) next ∙ sym
+    (path_loss-beside net d s valid within)
 
 pub next_loss-le : (net : Network) (d : Design) (s number : ℕ) → IsNetwork net → s < section_count net.tree
     → number ≡ path_loss net d s → number ≤ MAX_SECTIONS * MAX_LOSS
 next_loss-le net d s number valid within is = let most = path_loss-le net d s valid within in omega arith
 
 -- where a section has no least child it is a leaf
-pub least_none : (t : Tree) (s : ℕ) (numbers : List ℕ) → s < section_count t → None ≡ least_at numbers (children t s) → is_leaf t s ≡ true
+pub least_none : (t : Tree) (s : ℕ) (numbers : List ℕ) → s < section_count t
+    → None ≡ least_at numbers (children t s) → is_leaf t s ≡ true
 least_none t s numbers within none =
     elim (children t s) as
     (λ (cs : List ℕ). None ≡ least_at numbers cs → (nat_lt s (section_count t) && length cs == 0) ≡ true) [
@@ -61,7 +70,8 @@ least_none t s numbers within none =
 
 -- the least of the children's slacks is the section's
 pub least_some : (net : Network) (d : Design) (j s : ℕ) (numbers : List ℕ) (least : ℕ) → IsTree net.tree → j ≡ s + 1
-    → IsWrittenTo net.tree (path_loss net d) (slack net d) j numbers → Some least ≡ least_at numbers (children net.tree s)
+    → IsWrittenTo net.tree (path_loss net d) (slack net d) j numbers
+    → Some least ≡ least_at numbers (children net.tree s)
     → least ≡ slack net d s
 least_some net d j s numbers least tree next to some =
     let each : (c : ℕ) → Among c (children net.tree s) → slice_index numbers c ≡ slack net d c =
@@ -81,7 +91,8 @@ least_some net d j s numbers least tree next to some =
     ] refl some
 
 -- a leaf's path loss is within the head
-pub loss-le-head : (net : Network) (d : Design) (j s : ℕ) (numbers : List ℕ) (most : ℕ) → Meets net d → s < section_count net.tree
+pub loss-le-head : (net : Network) (d : Design) (j s : ℕ) (numbers : List ℕ) (most : ℕ) → Meets net d
+    → s < section_count net.tree
     → j ≡ s + 1 → IsWrittenTo net.tree (path_loss net d) (slack net d) j numbers → is_leaf net.tree s ≡ true
     → most ≡ head net d (side net.tree s) → get_or numbers s 0 ≤ most
 loss-le-head net d j s numbers most meets within next to is whole =
@@ -89,7 +100,8 @@ loss-le-head net d j s numbers most meets within next to is whole =
     let fits = path-le-head net d s meets is in
     omega arith
 
-pub slack_of_leaf : (net : Network) (d : Design) (j s : ℕ) (numbers : List ℕ) (most : ℕ) → IsTree net.tree → s < section_count net.tree
+pub slack_of_leaf : (net : Network) (d : Design) (j s : ℕ) (numbers : List ℕ) (most : ℕ) → IsTree net.tree
+    → s < section_count net.tree
     → j ≡ s + 1 → IsWrittenTo net.tree (path_loss net d) (slack net d) j numbers → is_leaf net.tree s ≡ true
     → most ≡ head net d (side net.tree s) → most - get_or numbers s 0 ≡ slack net d s
 slack_of_leaf net d j s numbers most tree within next to is whole =
@@ -103,12 +115,14 @@ abbrev pub less_beside : Tree → List ℕ → ℕ → ℕ
 less_beside t numbers s = slice_index numbers s - at_neighbour (slice_index numbers) (neighbour t s)
 
 pub next_less : (t : Tree) (old numbers : List ℕ) (j s beside : ℕ) → IsTree t → s < section_count t → j ≡ s + 1
-    → IsWrittenTo t (λ x. slice_index old x) (less_beside t old) j numbers → beside ≡ at_neighbour (slice_index numbers) (neighbour t s)
+    → IsWrittenTo t (λ x. slice_index old x) (less_beside t old) j numbers
+    → beside ≡ at_neighbour (slice_index numbers) (neighbour t s)
     → IsWrittenTo t (λ x. slice_index old x) (less_beside t old) s (set numbers s (get_or numbers s 0 - beside))
 next_less t old numbers j s beside tree within next to is =
     let first : ℕ → ℕ = λ x. slice_index old x in
     let same : at_neighbour (slice_index old) (neighbour t s) ≡ at_neighbour first (neighbour t s) =
-    elim (neighbour t s) as (λ (o : Option ℕ). at_neighbour (slice_index old) o ≡ at_neighbour first o) [ None ↦ refl | Some n ↦ refl ] in
+    elim (neighbour t s) as (λ (o : Option ℕ). at_neighbour (slice_index old) o ≡ at_neighbour first o)
+    [ None ↦ refl | Some n ↦ refl ] in
     let taken : beside ≡ at_neighbour (slice_index old) (neighbour t s) =
     is ∙ number_beside t first (less_beside t old) j s numbers tree within (omega arith) to ∙ sym same in
     let own : get_or numbers s 0 ≡ slice_index old s = to.first s (omega arith) within in

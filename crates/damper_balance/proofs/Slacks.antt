@@ -21,10 +21,12 @@ pub record IsLeastLeft (net : Network) (d : Design) (s least : ℕ) : Type 0 whe
   pub at_most : (leaf : ℕ) → IsBeyond net.tree s leaf → least ≤ left_by net d leaf
   pub reached : (leaf : ℕ) × (IsBeyond net.tree s leaf × (least ≡ left_by net d leaf))
 
-slack_left : (net : Network) (d : Design) (s leaf : ℕ) → IsBeyond net.tree s leaf → IsLeastLeft net d s (slack net d s)
+slack_left : (net : Network) (d : Design) (s leaf : ℕ) → IsBeyond net.tree s leaf
+    → IsLeastLeft net d s (slack net d s)
 slack_left net d s leaf beyond =
     let left : ℕ → ℕ = λ y. head net d (side net.tree s) - path_loss net d y in
-    let (y, (among, is)) = least_of-reached left leaf (leaves_beyond net.tree s) (Among-leaves_beyond net.tree s leaf beyond) in
+    let (y, (among, is)) = least_of-reached left leaf (leaves_beyond net.tree s)
+    (Among-leaves_beyond net.tree s leaf beyond) in
     let there = IsBeyond-from net.tree s y among in
     record {
       at_most = λ z other.
@@ -42,7 +44,8 @@ slack_is net d s least is =
     let (y, (beyond, reached)) = is.reached in
     let all = slack_left net d s y beyond in
     let (z, (also, least_one)) = all.reached in
-    meet (slack net d s) least (left_by net d y) (left_by net d z) (all.at_most y beyond) reached (is.at_most z also) least_one
+    meet (slack net d s) least (left_by net d y) (left_by net d z) (all.at_most y beyond) reached
+    (is.at_most z also) least_one
 
 same_le : (a : ℕ) → a ≤ a
 same_le a = omega arith
@@ -71,7 +74,8 @@ slack-inner net d s c tree child =
       at_most = λ leaf below.
           let (h, (of_section, beyond_child)) = child_before net.tree s c leaf tree child below in
           le_trans (least_of (map (slack net d) all)) (slack net d h) (left_by net d leaf)
-          (least_of-le (slack net d) h all of_section) ((slack_left net d h leaf beyond_child).at_most leaf beyond_child);
+          (least_of-le (slack net d) h all of_section)
+          ((slack_left net d h leaf beyond_child).at_most leaf beyond_child);
       reached = (z, (IsBeyond-neighbour net.tree s g z tree among there, is ∙ reached));
     })
 
@@ -82,7 +86,8 @@ slack_rises net d s n tree within next =
     subst (λ (least : ℕ). least ≤ slack net d s) (sym (slack-inner net d n s tree child))
     (least_of-le (slack net d) s (children net.tree n) child)
 
-covered-le : (net : Network) (d : Design) (o : Option ℕ) (x : Side) → Covers net d o → worst net d x ≤ head_with net d o x
+covered-le : (net : Network) (d : Design) (o : Option ℕ) (x : Side) → Covers net d o
+    → worst net d x ≤ head_with net d o x
 covered-le net d None Supply covered = omega arith
 covered-le net d None Return covered = same_le (worst net d Return)
 covered-le net d (Some i) Supply covered = covered.0
@@ -96,5 +101,6 @@ pub path-le-head : (net : Network) (d : Design) (leaf : ℕ) → Meets net d →
     → path_loss net d leaf ≤ head net d (side net.tree leaf)
 path-le-head net d leaf meets is =
     le_trans (path_loss net d leaf) (worst net d (side net.tree leaf)) (head net d (side net.tree leaf))
-    (le-max (path_loss net d) 0 leaf (leaves net.tree (side net.tree leaf)) (Among-leaves net.tree (side net.tree leaf) leaf is refl))
+    (le-max (path_loss net d) 0 leaf (leaves net.tree (side net.tree leaf))
+    (Among-leaves net.tree (side net.tree leaf) leaf is refl))
     (worst-le-head net d (side net.tree leaf) meets)

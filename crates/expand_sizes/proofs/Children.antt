@@ -92,7 +92,8 @@ module _ {net : Network} {fronts : List SectionData} {s k budget : ℕ} {found :
   module _ (less : i < length found) (entry : SectionData) (is : entry ≡ get_or fronts (get_or found i 0) entry) where
     is_child : (get_or found i 0 < section_count net.tree) × (neighbour net.tree (get_or found i 0) ≡ Some s)
     is_child =
-        subst (λ xs. i < length xs → (get_or xs i 0 < section_count net.tree) × (neighbour net.tree (get_or xs i 0) ≡ Some s))
+        subst (λ xs. i < length xs → (get_or xs i 0 < section_count net.tree) ×
+        (neighbour net.tree (get_or xs i 0) ≡ Some s))
         (sym summed.found_is) (λ inside. (child-within net.tree s i 0 inside, child-is net.tree s i 0 inside)) less
 
     within : get_or found i 0 < section_count net.tree

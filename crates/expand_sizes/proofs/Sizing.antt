@@ -9,7 +9,7 @@ use Rattle.duct_definitions.specs.Tree.{IsTree, section_count, neighbour, at_nei
 use Rattle.duct_definitions.specs.Network.{Network, columns, columns_beside, pair_at, cap}
 use Rattle.duct_definitions.specs.Designs.{loss_of}
 use Rattle.duct_definitions.proofs.TreeLaws.{earlier, neighbour_earlier}
-use Rattle.least_laws.specs.LeastIn.{least_in}
+use Rattle.least_laws.specs.LeastFromChildren.{least_in}
 use Rattle.least_laws.specs.Choosing.{Attains}
 use Rattle.least_laws.proofs.Attained.{root_there, child_there}
 use Rattle.least_laws.proofs.DuctsOf.{columns-child}
@@ -54,7 +54,8 @@ sized-none tree best no_sizes no_rests = record {
 module _ {net : Network} {choice : Choice} {n : ℕ} {sizes rests : List ℕ}
     (so_far : IsSizedTo net choice n sizes rests) (within : n < section_count net.tree) where
   sizable-at : (o : Option ℕ) → neighbour net.tree n ≡ o
-      → CanBeSized net n (at_neighbour (slice_index sizes) o) (left_towards (budget_on choice (side net.tree n)) rests o)
+      → CanBeSized net n (at_neighbour (slice_index sizes) o)
+      (left_towards (budget_on choice (side net.tree n)) rests o)
   sizable-at None at_fan = record {
     tree = so_far.tree;
     section = within;
@@ -112,7 +113,8 @@ earlier-within None s n before few = before
 earlier-within (Some m) s n before few = omega arith
 
 -- one section more
-module _ (net : Network) (choice : Choice) (n : ℕ) (sizes rests : List ℕ) (so_far : IsSizedTo net choice n sizes rests)
+module _ (net : Network) (choice : Choice) (n : ℕ) (sizes rests : List ℕ)
+    (so_far : IsSizedTo net choice n sizes rests)
     (within : n < section_count net.tree) (k rest : ℕ) where
   -- what a section up to the new one was sized with stays
   grown : (s other j : ℕ) → s ≤ n → other ≡ slice_index (rests ++ rest ∷ []) s → j ≡ slice_index (sizes ++ k ∷ []) s
@@ -124,7 +126,8 @@ module _ (net : Network) (choice : Choice) (n : ℕ) (sizes rests : List ℕ) (s
       let long = so_far.size_count in
       let wide = so_far.rest_count in
       IsSized-same net s _ _ other j _ _ _ _
-      (size-kept sizes k (neighbour net.tree s) (earlier-within (neighbour net.tree s) s (length sizes) before (omega arith)))
+      (size-kept sizes k (neighbour net.tree s)
+      (earlier-within (neighbour net.tree s) s (length sizes) before (omega arith)))
       (left-kept (budget_on choice (side net.tree s)) rests rest (neighbour net.tree s)
       (earlier-within (neighbour net.tree s) s (length rests) before (omega arith)))
       rest_is size_is sized

@@ -46,7 +46,8 @@ module _ {net : Network} {choice : Choice} {n : ℕ} {sizes rests : List ℕ}
   }
 
   pub design-best : IsBest net design
-  design-best = descent_is_best net so_far.tree design choice.supply_budget choice.cost so_far.best.chosen left descent
+  design-best = descent_is_best net so_far.tree design choice.supply_budget choice.cost so_far.best.chosen left
+      descent
 
   pub design-cost : cost net design ≡ choice.cost
   design-cost = descent_cost net so_far.tree design choice.supply_budget choice.cost so_far.best.chosen left descent

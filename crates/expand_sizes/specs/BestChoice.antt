@@ -8,7 +8,8 @@ use Rattle.fan_choice.specs.declared.choice.Choice.{Choice}
 
 -- the choice's fans and supply budget have the least cost, the first of these, and the return budget is theirs
 pub record IsBestChoice (net : Network) (choice : Choice) : Type 0 where
-  pub chosen : IsChosen net (side_least net Supply) (side_least net Return) choice.fan choice.back choice.supply_budget choice.cost
+  pub chosen : IsChosen net (side_least net Supply) (side_least net Return)
+      choice.fan choice.back choice.supply_budget choice.cost
   pub return_budget : choice.return_budget ≡ return_budget net choice.fan choice.back choice.supply_budget
 
 -- what a side of the network may lose

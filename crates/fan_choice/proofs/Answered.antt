@@ -16,7 +16,8 @@ module _ (net : Network) (supply back : List Point) (supply_front : IsFront supp
   abbrev chosen : Option Choice
   chosen = first_cheapest price (bests net supply back) (length net.fans)
 
-  pub answer-some : (answer : Option Choice) → chosen ≡ answer → IfSome answer (λ choice. IsChoiceOf net supply back choice)
+  pub answer-some : (answer : Option Choice) → chosen ≡ answer
+      → IfSome answer (λ choice. IsChoiceOf net supply back choice)
   answer-some None is = tt
   answer-some (Some choice) is = is_choice net supply back supply_front back_front choice is
 
@@ -27,5 +28,8 @@ module _ (net : Network) (supply back : List Point) (supply_front : IsFront supp
   pub answer-none : (answer : Option Choice) → chosen ≡ answer → IsNone answer ↔ NoFanCovers net supply back
   answer-none None is =
       (λ none. none_covers net supply back supply_front back_front (answer-unpriced None is), λ covers. refl)
-  answer-none (Some choice) is =
-      (λ none. absurd (true≢false none), λ covers. absurd (some_covers net supply back choice (answer-some (Some choice) is) covers))
+  answer-none (Some choice) is = (
+    λ none. absurd (true≢false none),
+    λ covers. absurd
+        (some_covers net supply back choice (answer-some (Some choice) is) covers),
+  )

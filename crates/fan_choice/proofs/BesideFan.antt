@@ -36,11 +36,13 @@ module _ (net : Network) (back : List Point) where
     pub bought : cheapest back (return_fan_at net j).pressure ≡ Some rest
     pub is : offer_with j rest ≡ own
 
-  offers-are : (j : ℕ) → return_offers net back j ≡ option_map (offer_with j) (cheapest back (return_fan_at net j).pressure)
+  offers-are : (j : ℕ) → return_offers net back j ≡ option_map (offer_with j)
+      (cheapest back (return_fan_at net j).pressure)
   offers-are j =
       at_point (last_within back (return_fan_at net j).pressure)
       ∙ ap (option_map (offer_with j)) (sym (cheapest-is back (return_fan_at net j).pressure)) where
-        at_point : (o : Option Point) → option_map (λ point. offer_with j point.cost) o ≡ option_map (offer_with j) (cost_of o)
+        at_point : (o : Option Point) → option_map (λ point. offer_with j point.cost) o ≡ option_map (offer_with j)
+            (cost_of o)
         at_point None = refl
         at_point (Some point) = refl
 
@@ -55,7 +57,8 @@ module _ (net : Network) (back : List Point) where
       → return_offers net back j ≡ Some (offer_with j rest)
   return_offer-there j rest bought = offers-are j ∙ ap (option_map (offer_with j)) bought
 
-module _ (net : Network) (supply back : List Point) (i : ℕ) (inside : i < length net.fans) (supply_front : IsFront supply) where
+module _ (net : Network) (supply back : List Point) (i : ℕ) (inside : i < length net.fans)
+    (supply_front : IsFront supply) where
   abbrev pressure : ℕ
   pressure = (fan_at net i).pressure
 
@@ -63,15 +66,18 @@ module _ (net : Network) (supply back : List Point) (i : ℕ) (inside : i < leng
   cost o b = cost_at net (cheapest supply) (cheapest back) i o b
 
   -- the whole pressure costs the supply side no more than a budget within it
-  whole_costs : (b x : ℕ) → b ≤ pressure → cheapest supply b ≡ Some x → IsSomeAnd (cheapest supply pressure) (λ y. y ≤ x)
+  whole_costs : (b x : ℕ) → b ≤ pressure → cheapest supply b ≡ Some x
+      → IsSomeAnd (cheapest supply pressure) (λ y. y ≤ x)
   whole_costs b x within is = cheapest-rise supply b pressure supply_front within x is
 
   none_supplied : cheapest supply pressure ≡ None → NoneWith Beside net supply back i
   none_supplied none o b c own offered at =
       let all = paid net supply back i o b c at in
-      subst (λ p. IsSomeAnd p (λ y. y ≤ all.of_supply)) none (whole_costs b all.of_supply offered.within all.supply_is)
+      subst (λ p. IsSomeAnd p (λ y. y ≤ all.of_supply)) none
+      (whole_costs b all.of_supply offered.within all.supply_is)
 
-  none_returned : ((j : ℕ) → j < length net.return_fans → return_offers net back j ≡ None) → NoneWith Beside net supply back i
+  none_returned : ((j : ℕ) → j < length net.return_fans → return_offers net back j ≡ None)
+      → NoneWith Beside net supply back i
   none_returned none None b c own offered at = own
   none_returned none (Some j) b c own offered at =
       let all = paid net supply back i (Some j) b c at in
@@ -94,7 +100,8 @@ module _ (net : Network) (supply back : List Point) (i : ℕ) (inside : i < leng
         let same = ap price there in
         let low = first.least j offered.back y is in
         let whole : point.cost ≤ all.of_supply =
-        subst (λ o. IsSomeAnd o (λ z. z ≤ all.of_supply)) is_last (whole_costs b all.of_supply offered.within all.supply_is) in
+        subst (λ o. IsSomeAnd o (λ z. z ≤ all.of_supply)) is_last
+        (whole_costs b all.of_supply offered.within all.supply_is) in
         let sum = all.is in
         (low, omega arith)
 
@@ -123,16 +130,19 @@ module _ (net : Network) (supply back : List Point) (i : ℕ) (inside : i < leng
     best_is =
         let of_own = return_offer-some net back first.at own first.is in
         let at_number : first.at ≡ own.number = ap (λ (o : ReturnOffer). o.number) of_own.is in
-        let at_pressure : (return_fan_at net first.at).pressure ≡ own.pressure = ap (λ (o : ReturnOffer). o.pressure) of_own.is in
+        let at_pressure : (return_fan_at net first.at).pressure ≡ own.pressure = ap
+        (λ (o : ReturnOffer). o.pressure) of_own.is in
         let at_cost : (return_fan_at net first.at).cost + of_own.rest ≡ own.cost = ap price of_own.is in
         let is_priced = priced supply last.place point supply_front last.there in
-        let sum : (fan_at net i).cost + (return_fan_at net first.at).cost + (point.cost + of_own.rest) ≡ choice.cost = omega arith in
+        let sum : (fan_at net i).cost + (return_fan_at net first.at).cost + (point.cost + of_own.rest) ≡
+        choice.cost = omega arith in
         let with_number : IsBestWith Beside net supply back i (record choice { back = Some first.at }) = record {
           fan = refl;
           own = tt;
           return_budget = sym at_pressure;
           offered = record { in_range = inside; back = first.below; within = last.within };
-          reached = pays net supply back i (Some first.at) point.need point.cost of_own.rest is_priced.at_need of_own.bought
+          reached = pays net supply back i (Some first.at) point.need point.cost of_own.rest is_priced.at_need
+              of_own.bought
               ∙ ap Some sum;
           least = least;
           first_back = first_back;
@@ -152,7 +162,8 @@ module _ (net : Network) (supply back : List Point) (i : ℕ) (inside : i < leng
         → Answers Beside net supply back i (option_map (beside i (fan_at net i) own) o)
     at_last own first None none = none_supplied (cheapest-is supply pressure ∙ ap cost_of none)
     at_last own first (Some point) is =
-        best_is own point first (last_within-some supply pressure point is) (cheapest-is supply pressure ∙ ap cost_of is)
+        best_is own point first (last_within-some supply pressure point is)
+        (cheapest-is supply pressure ∙ ap cost_of is)
 
     go : (o : Option ReturnOffer) → best_return net back ≡ o
         → Answers Beside net supply back i (best_beside i (fan_at net i) supply o)

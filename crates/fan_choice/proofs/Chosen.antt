@@ -23,7 +23,8 @@ module _ (net : Network) (supply back : List Point) (supply_front : IsFront supp
   abbrev cost : ℕ → Option ℕ → ℕ → Option ℕ
   cost = cost_at net (cheapest supply) (cheapest back)
 
-  answers : (i : ℕ) → i < length net.fans → (o : Option Choice) → bests net supply back i ≡ o → Answers Either net supply back i o
+  answers : (i : ℕ) → i < length net.fans → (o : Option Choice) → bests net supply back i ≡ o
+      → Answers Either net supply back i o
   answers i inside o is =
       subst (Answers Either net supply back i) is
       (better net supply back i _ _ (share_answers net supply back i inside supply_front back_front)
@@ -50,7 +51,8 @@ module _ (net : Network) (supply back : List Point) (supply_front : IsFront supp
   is_choice choice is =
       let first = first_cheapest-some price (bests net supply back) (length net.fans) choice is in
       let with_fan = answers first.at first.below (Some choice) first.is in
-      let here : IsChosen net (cheapest supply) (cheapest back) first.at choice.back choice.supply_budget choice.cost = record {
+      let here : IsChosen net (cheapest supply) (cheapest back) first.at choice.back choice.supply_budget
+      choice.cost = record {
         offered = with_fan.offered;
         reached = with_fan.reached;
         least = λ i o b c offered at.
@@ -67,15 +69,19 @@ module _ (net : Network) (supply back : List Point) (supply_front : IsFront supp
         least_budget = with_fan.least_budget;
       } in
       record {
-        chosen = subst (λ i. IsChosen net (cheapest supply) (cheapest back) i choice.back choice.supply_budget choice.cost) (sym with_fan.fan) here;
-        return_budget = subst (λ i. choice.return_budget ≡ return_budget net i choice.back choice.supply_budget) (sym with_fan.fan) with_fan.return_budget;
+        chosen = subst (λ i. IsChosen net (cheapest supply) (cheapest back) i choice.back choice.supply_budget
+            choice.cost) (sym with_fan.fan) here;
+        return_budget = subst (λ i. choice.return_budget ≡ return_budget net i choice.back choice.supply_budget)
+            (sym with_fan.fan) with_fan.return_budget;
       }
 
-  pub none_priced : first_cheapest price (bests net supply back) (length net.fans) ≡ None → NoneIsPriced net supply back
+  pub none_priced : first_cheapest price (bests net supply back) (length net.fans) ≡ None
+      → NoneIsPriced net supply back
   none_priced none i o b offered = go (cost i o b) refl where
     go : (c : Option ℕ) → cost i o b ≡ c → c ≡ None
     go None is = refl
     go (Some c) at =
         let other = has_best i o b c offered at in
         absurd (none-some other.choice
-        (sym (first_cheapest-none price (bests net supply back) (length net.fans) none i offered.in_range) ∙ other.is))
+        (sym (first_cheapest-none price (bests net supply back) (length net.fans) none i offered.in_range) ∙
+        other.is))

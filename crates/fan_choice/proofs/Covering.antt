@@ -20,19 +20,25 @@ some_price ps p budget front inside within =
     go (cheapest ps budget) refl
     (cheapest-rise ps p.need budget front within p.cost
     (All-contains (λ q. cheapest ps q.need ≡ Some q.cost) ps p (cheapest-need ps front) inside)) where
-      go : (o : Option ℕ) → cheapest ps budget ≡ o → IsSomeAnd o (λ c. c ≤ p.cost) → (c : ℕ) × (cheapest ps budget ≡ Some c)
+      go : (o : Option ℕ) → cheapest ps budget ≡ o → IsSomeAnd o (λ c. c ≤ p.cost)
+          → (c : ℕ) × (cheapest ps budget ≡ Some c)
       go None is less = absurd less
       go (Some c) is less = (c, is)
 
 point_there : (ps : List Point) (budget cost : ℕ) (p : IsBought ps budget cost) → Contains ps p.point
 point_there ps budget cost p =
-    let last = p.last in
-    (last.place, slice_get_within ps last.place p.point last.there, get_or_from_slice_get ps last.place p.point p.point last.there)
+    let last = p.last in (
+      last.place,
+      slice_get_within ps last.place p.point last.there,
+      get_or_from_slice_get ps last.place p.point
+          p.point last.there,
+    )
 
 module _ (net : Network) (supply back : List Point) where
   -- with an offer that is priced at the needs of two points something has a cost
   priced_at : (fan : ℕ) (own : Option ℕ) (p q : Point) → IsFront supply → IsFront back → NoneIsPriced net supply back
-      → Contains supply p → Contains back q → IsOffered net fan own p.need → q.need ≤ return_budget net fan own p.need → ⊥
+      → Contains supply p → Contains back q → IsOffered net fan own p.need
+      → q.need ≤ return_budget net fan own p.need → ⊥
   priced_at fan own p q supply_front back_front none p_in q_in offered within =
       let (x, x_is) = some_price supply p p.need supply_front p_in (omega arith) in
       let (y, y_is) = some_price back q (return_budget net fan own p.need) back_front q_in within in
@@ -49,7 +55,8 @@ module _ (net : Network) (supply back : List Point) where
   }
 
   -- the points that a cost pays for stand within the budgets of some fans
-  covered : (fan : ℕ) (own : Option ℕ) (budget : ℕ) (p q : Point) → IsOffered net fan own budget → Contains supply p → Contains back q
+  covered : (fan : ℕ) (own : Option ℕ) (budget : ℕ) (p q : Point) → IsOffered net fan own budget
+      → Contains supply p → Contains back q
       → p.need ≤ budget → q.need ≤ return_budget net fan own budget → NoFanCovers net supply back → ⊥
   covered fan None budget p q offered p_in q_in p_within q_within none =
       let fits = offered.within in

@@ -68,7 +68,8 @@ module _ {X : Type 0} (price : X → ℕ) where
         let both = both-none (first_cheapest price offer n) (offer n) none in
         below_next (λ k. offer k ≡ None) n (first_cheapest-none n both.0) both.1 k below
 
-    kept : (n : ℕ) (best : X) → IsFirstCheapest price offer n best → ((y : X) → offer n ≡ Some y → price best ≤ price y)
+    kept : (n : ℕ) (best : X) → IsFirstCheapest price offer n best
+        → ((y : X) → offer n ≡ Some y → price best ≤ price y)
         → IsFirstCheapest price offer (suc n) best
     kept n best so_far more = record {
       at = so_far.at;
@@ -80,7 +81,8 @@ module _ {X : Type 0} (price : X → ℕ) where
 
     -- the last is taken where each before it is more expensive
     taken : (n : ℕ) (next : X) → offer n ≡ Some next
-        → ((k : ℕ) → k < n → (x : X) → offer k ≡ Some x → price next < price x) → IsFirstCheapest price offer (suc n) next
+        → ((k : ℕ) → k < n → (x : X) → offer k ≡ Some x → price next < price x)
+        → IsFirstCheapest price offer (suc n) next
     taken n next last less = record {
       at = n;
       below = omega arith;
@@ -92,7 +94,8 @@ module _ {X : Type 0} (price : X → ℕ) where
     }
 
     -- where so far nothing is cheaper than what is less than the best so far
-    all_less : (n : ℕ) (cost : ℕ) → ((b : X) → first_cheapest price offer n ≡ Some b → IsFirstCheapest price offer n b)
+    all_less : (n : ℕ) (cost : ℕ) → ((b : X) → first_cheapest price offer n ≡ Some b → IsFirstCheapest price offer
+        n b)
         → ((b : X) → first_cheapest price offer n ≡ Some b → cost < price b)
         → (k : ℕ) → k < n → (x : X) → offer k ≡ Some x → cost < price x
     all_less n cost so_far less k below x is = go (first_cheapest price offer n) refl where

@@ -20,7 +20,8 @@ cheapest-is (p ∷ ps) budget =
     ap (λ o. option_or o (price_of p budget)) (cheapest-is ps budget)
     ∙ joined (last_within ps budget) (nat_le p.need budget) where
       joined : (o : Option Point) (b : Bool)
-          → option_or (cost_of o) (if b then Some p.cost else None) ≡ cost_of (option_or o (if b then Some p else None))
+          → option_or (cost_of o) (if b then Some p.cost else None) ≡ cost_of
+          (option_or o (if b then Some p else None))
       joined None true = refl
       joined None false = refl
       joined (Some q) b = refl
@@ -36,13 +37,15 @@ pub last_within-some : (ps : List Point) (budget : ℕ) (point : Point) → last
 last_within-some [] budget point is = absurd (none-some point is)
 last_within-some (p ∷ ps) budget point is =
     go (last_within ps budget) (last_within-some ps budget point) is where
-      first : (b : Bool) → nat_le p.need budget ≡ b → (if b then Some p else None) ≡ Some point → IsLast (p ∷ ps) budget point
+      first : (b : Bool) → nat_le p.need budget ≡ b → (if b then Some p else None) ≡ Some point
+          → IsLast (p ∷ ps) budget point
       first true test here =
           subst (IsLast (p ∷ ps) budget) (same_Some p point here)
           (record { place = zero; there = refl; within = leb-true p.need budget test })
       first false test here = absurd (none-some point here)
 
-      go : (o : Option Point) → (o ≡ Some point → IsLast ps budget point) → option_or o (if_within p budget) ≡ Some point
+      go : (o : Option Point) → (o ≡ Some point → IsLast ps budget point)
+          → option_or o (if_within p budget) ≡ Some point
           → IsLast (p ∷ ps) budget point
       go None later here = first (nat_le p.need budget) refl here
       go (Some q) later here =
@@ -79,13 +82,15 @@ if_within-above p budget above = grind (arith, nat_tests)
 last_within-above : (ps : List Point) (budget : ℕ) → All (λ p. budget < p.need) ps → last_within ps budget ≡ None
 last_within-above [] budget above = refl
 last_within-above (p ∷ ps) budget above =
-    ap (λ o. option_or o (if_within p budget)) (last_within-above ps budget (All-tail (λ q. budget < q.need) p ps above))
+    ap (λ o. option_or o (if_within p budget))
+    (last_within-above ps budget (All-tail (λ q. budget < q.need) p ps above))
     ∙ if_within-above p budget (All-head (λ q. budget < q.need) p ps above)
 
 last_within-append : (ps qs : List Point) (budget : ℕ) → All (λ p. budget < p.need) qs
     → last_within (ps ++ qs) budget ≡ last_within ps budget
 last_within-append [] qs budget above = last_within-above qs budget above
-last_within-append (p ∷ ps) qs budget above = ap (λ o. option_or o (if_within p budget)) (last_within-append ps qs budget above)
+last_within-append (p ∷ ps) qs budget above = ap (λ o. option_or o (if_within p budget))
+    (last_within-append ps qs budget above)
 
 pub last_within-part : (ps part : List Point) (budget : ℕ) → part ≡ take (length part) ps
     → All (λ p. budget < p.need) (drop (length part) ps) → last_within part budget ≡ last_within ps budget

@@ -29,7 +29,8 @@ pub record IsBestWith (Own : Option ℕ → Type 0) (net : Network) (supply back
 -- none of these has a cost with fan i
 abbrev pub NoneWith : (Option ℕ → Type 0) → Network → List Point → List Point → ℕ → Type 0
 NoneWith Own net supply back i =
-    (o : Option ℕ) (b c : ℕ) → Own o → IsOffered net i o b → cost_at net (cheapest supply) (cheapest back) i o b ≢ Some c
+    (o : Option ℕ) (b c : ℕ) → Own o → IsOffered net i o b
+    → cost_at net (cheapest supply) (cheapest back) i o b ≢ Some c
 
 -- the answer is the best of these, or none of them has a cost
 abbrev pub Answers : (Option ℕ → Type 0) → Network → List Point → List Point → ℕ → Option Choice → Type 0
@@ -60,10 +61,12 @@ module _ (net : Network) (supply back : List Point) (i : ℕ) where
     offered = best.offered;
     reached = best.reached;
     least = λ o b c own. low o b c;
-    first_back = λ o b own earlier. absurd (let none = best.own in first o (subst (λ p. turn_of o < turn_of p) none earlier));
+    first_back = λ o b own earlier. absurd (let none = best.own in first o
+        (subst (λ p. turn_of o < turn_of p) none earlier));
     least_budget = best.least_budget;
   } where
-    low : (o : Option ℕ) (b c : ℕ) → IsOffered net i o b → cost_at net (cheapest supply) (cheapest back) i o b ≡ Some c → choice.cost ≤ c
+    low : (o : Option ℕ) (b c : ℕ) → IsOffered net i o b
+        → cost_at net (cheapest supply) (cheapest back) i o b ≡ Some c → choice.cost ≤ c
     low None b c = best.least None b c refl
     low (Some j) b c = more (Some j) b c tt
 
@@ -72,7 +75,8 @@ module _ (net : Network) (supply back : List Point) (i : ℕ) where
 
   -- a fan beside a return fan is the best where a fan for both sides costs more
   beside_less : (choice : Choice) → IsBestWith Beside net supply back i choice
-      → ((b c : ℕ) → IsOffered net i None b → cost_at net (cheapest supply) (cheapest back) i None b ≡ Some c → choice.cost < c)
+      → ((b c : ℕ) → IsOffered net i None b → cost_at net (cheapest supply) (cheapest back) i None b ≡ Some c
+      → choice.cost < c)
       → IsBestWith Either net supply back i choice
   beside_less choice best less = record {
     fan = best.fan;
@@ -84,7 +88,8 @@ module _ (net : Network) (supply back : List Point) (i : ℕ) where
     first_back = λ o b own. first o b;
     least_budget = best.least_budget;
   } where
-    low : (o : Option ℕ) (b c : ℕ) → IsOffered net i o b → cost_at net (cheapest supply) (cheapest back) i o b ≡ Some c → choice.cost ≤ c
+    low : (o : Option ℕ) (b c : ℕ) → IsOffered net i o b
+        → cost_at net (cheapest supply) (cheapest back) i o b ≡ Some c → choice.cost ≤ c
     low None b c offered at = let under = less b c offered at in omega arith
     low (Some j) b c offered at = best.least (Some j) b c tt offered at
 
@@ -104,7 +109,8 @@ module _ (net : Network) (supply back : List Point) (i : ℕ) where
       omega arith
 
   no_lower : (beside : Option Choice) (choice : Choice) → Answers Beside net supply back i beside
-      → ((w : Choice) → beside ≡ Some w → choice.cost ≤ w.cost) → (o : Option ℕ) (b c : ℕ) → Beside o → IsOffered net i o b
+      → ((w : Choice) → beside ≡ Some w → choice.cost ≤ w.cost) → (o : Option ℕ) (b c : ℕ) → Beside o
+      → IsOffered net i o b
       → cost_at net (cheapest supply) (cheapest back) i o b ≡ Some c → choice.cost ≤ c
   no_lower None choice answers more o b c own offered at = absurd (answers o b c own offered at)
   no_lower (Some w) choice answers more o b c own offered at =
@@ -117,17 +123,21 @@ module _ (net : Network) (supply back : List Point) (i : ℕ) where
   answers-some o choice Own answers is = subst (Answers Own net supply back i) is answers
 
   -- of the best of each kind the cheaper is the best of all, and of equal ones the one that serves both sides
-  pub better : (shared beside : Option Choice) → Answers Shared net supply back i shared → Answers Beside net supply back i beside
+  pub better : (shared beside : Option Choice) → Answers Shared net supply back i shared
+      → Answers Beside net supply back i beside
       → Answers Either net supply back i (cheaper price shared beside)
   better shared beside of_shared of_beside = go (cheaper price shared beside) refl where
     go : (o : Option Choice) → cheaper price shared beside ≡ o → Answers Either net supply back i o
     go None none =
         let both = both-none price shared beside none in
-        none_of (subst (Answers Shared net supply back i) both.0 of_shared) (subst (Answers Beside net supply back i) both.1 of_beside) where
-          none_of : NoneWith Shared net supply back i → NoneWith Beside net supply back i → NoneWith Either net supply back i
+        none_of (subst (Answers Shared net supply back i) both.0 of_shared)
+        (subst (Answers Beside net supply back i) both.1 of_beside) where
+          none_of : NoneWith Shared net supply back i → NoneWith Beside net supply back i
+              → NoneWith Either net supply back i
           none_of no_share no_beside None b c own = no_share None b c refl
           none_of no_share no_beside (Some j) b c own = no_beside (Some j) b c tt
     go (Some choice) is =
         cheaper-cases price (IsBestWith Either net supply back i) shared beside choice is
-        (λ s here more. shared_first s (answers-some shared s Shared of_shared here) (no_lower beside s of_beside more))
+        (λ s here more. shared_first s (answers-some shared s Shared of_shared here)
+        (no_lower beside s of_beside more))
         (λ w here less. beside_less w (answers-some beside w Beside of_beside here) (no_less shared w of_shared less))

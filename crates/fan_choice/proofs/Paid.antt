@@ -9,12 +9,13 @@ use Rattle.pareto_front.specs.Front.{cheapest}
 use Rattle.least_laws.specs.Choosing.{return_budget, cost_at}
 
 -- both sides have a cost within their budgets, and the fans' is added
-pub record IsPaid (net : Network) (supply back : List Point) (fan : ℕ) (own : Option ℕ) (budget cost : ℕ) : Type 0 where
-  pub of_supply : ℕ
-  pub of_back : ℕ
-  pub supply_is : cheapest supply budget ≡ Some of_supply
-  pub back_is : cheapest back (return_budget net fan own budget) ≡ Some of_back
-  pub is : fans_cost net fan own + (of_supply + of_back) ≡ cost
+pub record IsPaid (net : Network) (supply back : List Point) (fan : ℕ) (own : Option ℕ) (budget cost : ℕ) : Type 0
+  where
+    pub of_supply : ℕ
+    pub of_back : ℕ
+    pub supply_is : cheapest supply budget ≡ Some of_supply
+    pub back_is : cheapest back (return_budget net fan own budget) ≡ Some of_back
+    pub is : fans_cost net fan own + (of_supply + of_back) ≡ cost
 
 module _ (net : Network) (supply back : List Point) (fan : ℕ) (own : Option ℕ) (budget : ℕ) where
   abbrev fans : Option ℕ

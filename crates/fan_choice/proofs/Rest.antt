@@ -47,5 +47,6 @@ module _ (supply back rest part : List Point) (pressure i : ℕ) (d : Point) (th
       let later : i + 1 + k < length supply = omega (arith, length-drop (i + 1) supply) in
       let rises = needs_rise supply front i (i + 1 + k) d (omega arith) later in
       let is_there = get_or-drop (i + 1) supply k d in
-      let left : budget ≤ pressure - (get_or supply (i + 1 + k) d).need = subst (λ p. budget ≤ pressure - p.need) is_there within in
+      let left : budget ≤ pressure - (get_or supply (i + 1 + k) d).need = subst (λ p. budget ≤ pressure - p.need)
+      is_there within in
       serves_now budget (omega (arith, rises, left)))

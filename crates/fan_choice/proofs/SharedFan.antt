@@ -44,7 +44,8 @@ module _ (net : Network) (supply back : List Point) (i : ℕ) (inside : i < leng
       let p = bought supply b all.of_supply all.supply_is in
       let within = p.last.within in
       go all p (cheapest back (pressure - p.point.need)) refl
-      (cheapest-rise back (pressure - b) (pressure - p.point.need) back_front (omega arith) all.of_back all.back_is) where
+      (cheapest-rise back (pressure - b) (pressure - p.point.need) back_front (omega arith) all.of_back
+      all.back_is) where
         go : (all : IsPaid net supply back i None b c) (p : IsBought supply b all.of_supply) (rest : Option ℕ)
             → cheapest back (pressure - p.point.need) ≡ rest → IsSomeAnd rest (λ y. y ≤ all.of_back) → IsNoMore b c
         go all p None is less = absurd less
@@ -64,13 +65,15 @@ module _ (net : Network) (supply back : List Point) (i : ℕ) (inside : i < leng
                 supply_budget = p.point.need;
                 return_budget = pressure - p.point.need;
               };
-              offered = shares-there i (fan_at net i) back supply p.last.place p.point y p.last.there (omega arith) is;
+              offered = shares-there i (fan_at net i) back supply p.last.place p.point y p.last.there (omega arith)
+                  is;
               cheap = omega arith;
             }
 
   none_shared : ((k : ℕ) → k < length supply → offer k ≡ None) → NoneWith Shared net supply back i
   none_shared none o b c own offered at =
-      let less = no_more b c offered.within (subst (λ p. cost_at net (cheapest supply) (cheapest back) i p b ≡ Some c) own at) in
+      let less = no_more b c offered.within (subst
+      (λ p. cost_at net (cheapest supply) (cheapest back) i p b ≡ Some c) own at) in
       absurd (none-some less.choice
       (sym (none less.place (slice_get_within supply less.place less.point less.there)) ∙ less.offered))
 
@@ -80,16 +83,20 @@ module _ (net : Network) (supply back : List Point) (i : ℕ) (inside : i < leng
       let at = shares-some i (fan_at net i) back supply first.at choice first.is in
       let same = same_Some _ choice at.is in
       let is_priced = priced supply first.at at.point supply_front at.there in
-      let sum : (fan_at net i).cost + 0 + (at.point.cost + at.rest) ≡ (fan_at net i).cost + (at.point.cost + at.rest) = omega arith in
+      let sum : (fan_at net i).cost + 0 + (at.point.cost + at.rest) ≡ (fan_at net i).cost +
+      (at.point.cost + at.rest) = omega arith in
       subst (IsBestWith Shared net supply back i) same (record {
         fan = refl;
         own = refl;
         return_budget = refl;
         offered = record { in_range = inside; back = tt; within = at.within };
-        reached = pays net supply back i None at.point.need at.point.cost at.rest is_priced.at_need at.bought ∙ ap Some sum;
+        reached = pays net supply back i None at.point.need at.point.cost at.rest is_priced.at_need at.bought ∙ ap
+            Some sum;
         least = λ o b c own offered is.
-            (let less = no_more b c offered.within (subst (λ p. cost_at net (cheapest supply) (cheapest back) i p b ≡ Some c) own is) in
-            let low = first.least less.place (slice_get_within supply less.place less.point less.there) less.choice less.offered in
+            (let less = no_more b c offered.within (subst
+            (λ p. cost_at net (cheapest supply) (cheapest back) i p b ≡ Some c) own is) in
+            let low = first.least less.place (slice_get_within supply less.place less.point less.there) less.choice
+            less.offered in
             let cost = ap (λ d. d.cost) same in
             let cheap = less.cheap in
             omega arith);
@@ -103,7 +110,8 @@ module _ (net : Network) (supply back : List Point) (i : ℕ) (inside : i < leng
             elim (cases_lt less.place first.at) [
               | inl before ↦ (let more = first.first less.place before less.choice less.offered in omega arith)
               | inr later ↦
-                  (let more = later_needs_more supply first.at less.place at.point less.point supply_front later at.there less.there in
+                  (let more = later_needs_more supply first.at less.place at.point less.point supply_front later
+                  at.there less.there in
                   omega arith)
             ]);
       })

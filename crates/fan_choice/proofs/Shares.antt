@@ -52,7 +52,8 @@ module _ (number : ℕ) (fan : NetFan) (back : List Point) where
       → best_shared number fan part back ≡ best_shared number fan supply back
   unfolding best_shared
   best_shared-part supply part is beyond =
-      first_cheapest-alike price (shares number fan part back) (shares number fan supply back) (length part) (λ k below.
+      first_cheapest-alike price (shares number fan part back) (shares number fan supply back) (length part)
+      (λ k below.
       ap (option_and_then (share_at number fan back)) (same_place k below))
       ∙ sym (first_cheapest-end price (shares number fan supply back) (length part) (length supply) few none) where
         few : length part ≤ length supply
@@ -69,7 +70,8 @@ module _ (number : ℕ) (fan : NetFan) (back : List Point) where
           | inl there ↦
               (let over = beyond (k - length part) no_point (omega (arith, length-drop (length part) supply)) in
               let place : length part + (k - length part) ≡ k = omega arith in
-              let at = get_or-drop (length part) supply (k - length part) no_point ∙ ap (λ i. get_or supply i no_point) place in
+              let at = get_or-drop (length part) supply (k - length part) no_point ∙ ap
+              (λ i. get_or supply i no_point) place in
               ap (option_and_then (share_at number fan back)) (slice_get-get_or supply k no_point there)
               ∙ share_at-over (get_or supply k no_point) (subst (λ p. fan.pressure < p.need) at over))
           | inr end ↦ ap (option_and_then (share_at number fan back)) (slice_get_past supply k end)
@@ -88,18 +90,21 @@ module _ (number : ℕ) (fan : NetFan) (back : List Point) where
       → IsShare supply k choice
   shares-some supply k choice is = of_place (slice_get supply k) refl is where
     of_rest : (point : Point) → slice_get supply k ≡ Some point → point.need ≤ fan.pressure → (rest : Option ℕ)
-        → cheapest back (fan.pressure - point.need) ≡ rest → share number fan point rest ≡ Some choice → IsShare supply k choice
+        → cheapest back (fan.pressure - point.need) ≡ rest → share number fan point rest ≡ Some choice
+        → IsShare supply k choice
     of_rest point there within None bought is = absurd (none-some choice is)
     of_rest point there within (Some rest) bought is =
         record { point = point; there = there; within = within; rest = rest; bought = bought; is = is }
 
-    of_place : (o : Option Point) → slice_get supply k ≡ o → option_and_then (share_at number fan back) o ≡ Some choice
+    of_place : (o : Option Point) → slice_get supply k ≡ o
+        → option_and_then (share_at number fan back) o ≡ Some choice
         → IsShare supply k choice
     of_place None there is = absurd (none-some choice is)
     of_place (Some point) there is = elim (cases_lt fan.pressure point.need) [
       | inl over ↦ absurd (none-some choice (sym (share_at-over point over) ∙ is))
       | inr within ↦
-          of_rest point there within (cheapest back (fan.pressure - point.need)) refl (sym (share_at-covered point within) ∙ is)
+          of_rest point there within (cheapest back (fan.pressure - point.need)) refl
+          (sym (share_at-covered point within) ∙ is)
     ]
 
   pub shares-there : (supply : List Point) (k : ℕ) (point : Point) (rest : ℕ) → slice_get supply k ≡ Some point

@@ -1,6 +1,6 @@
 -- The ways to share one fan's pressure out between the two sides, and the first cheapest of them.
 --   share number fan point rest            the point for the supply side, and the rest of the pressure for the other
---   share_at number fan back point         the same with the return side's cheapest, where the pressure covers the point
+--   share_at number fan back point         the same with the cheapest of the return side, where the pressure covers it
 --   shares number fan supply back k        the share of the supply point at place k
 --   best_shared number fan supply back     the first cheapest share of one fan
 use Rattle.std.specs.Prelude.{ℕ, ◌+◌, ◌-◌, List, length, Option, Some, None, nat_le, slice_get, if◌then◌else◌}

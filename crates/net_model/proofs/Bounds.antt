@@ -16,7 +16,8 @@ use Rattle.duct_definitions.proofs.TreeLaws.{few_sections}
 use Rattle.duct_definitions.proofs.WayLaws.{way-first, way-short}
 
 -- what stands at a place, or nothing past the end
-bounded_at : (pairs : List (Option Pair)) (i : ℕ) → All IsBounded pairs → IsBounded (unwrap_or (slice_get pairs i) None)
+bounded_at : (pairs : List (Option Pair)) (i : ℕ) → All IsBounded pairs
+    → IsBounded (unwrap_or (slice_get pairs i) None)
 bounded_at pairs i all =
     subst (λ (o : Option Pair). IsBounded o) (sym (unwrap_or-slice_get pairs i None))
     (elim (cases_lt i (length pairs)) [
@@ -30,7 +31,8 @@ all_bounded net s valid =
       | inl within ↦ (valid.sections s within).bounds
       | inr past ↦
           let none : List (Option Pair) = [] in
-          let is : pairs_of net s ≡ none = unwrap_or-slice_get net.pairs s none ∙ get_or_past net.pairs s none (omega (arith, valid.pair_lists)) in
+          let is : pairs_of net s ≡ none = unwrap_or-slice_get net.pairs s none ∙ get_or_past net.pairs s none
+          (omega (arith, valid.pair_lists)) in
           subst (λ (pairs : List (Option Pair)). All IsBounded pairs) (sym is) (λ k d within. absurd (omega arith))
     ]
 
@@ -45,13 +47,14 @@ price-le : (o : Option Pair) → IsBounded o → price_of o ≤ MAX_PRICE
 price-le None bounded = omega arith
 price-le (Some pair) bounded = bounded.1
 
--- a path has 500 losses at the most
+-- a path has at most 500 losses
 pub path_loss-le : (net : Network) (d : Design) (s : ℕ) → IsNetwork net → s < section_count net.tree
     → path_loss net d s ≤ MAX_SECTIONS * MAX_LOSS
 path_loss-le net d s valid within =
     let loss : ℕ → ℕ = λ x. loss_of (pair_of net d x) in
     let each : All (λ x. loss x ≤ MAX_LOSS) (way net.tree s) =
-    λ k e below. loss-le (pair_of net d (get_or (way net.tree s) k e)) (pair-bounded net d (get_or (way net.tree s) k e) valid) in
+    λ k e below. loss-le (pair_of net d (get_or (way net.tree s) k e))
+    (pair-bounded net d (get_or (way net.tree s) k e) valid) in
     let sum = sum_by-le loss MAX_LOSS (way net.tree s) each in
     let short = way-short net.tree s within in
     let few = few_sections net.tree valid.tree in
@@ -62,7 +65,8 @@ pub prices-le : (net : Network) (d : Design) → IsNetwork net
 prices-le net d valid =
     let price : ℕ → ℕ = λ x. price_of (pair_of net d x) in
     let each : All (λ x. price x ≤ MAX_PRICE) (sections net.tree) =
-    λ k e below. price-le (pair_of net d (get_or (sections net.tree) k e)) (pair-bounded net d (get_or (sections net.tree) k e) valid) in
+    λ k e below. price-le (pair_of net d (get_or (sections net.tree) k e))
+    (pair-bounded net d (get_or (sections net.tree) k e) valid) in
     let sum = sum_by-le price MAX_PRICE (sections net.tree) each in
     let long = length-range_with_len 0 (section_count net.tree) in
     let few = few_sections net.tree valid.tree in
@@ -70,7 +74,8 @@ prices-le net d valid =
 
 -- the loss of the first section, and of those from its neighbour on
 pub path_loss-first : (net : Network) (d : Design) (s : ℕ) → IsNetwork net → s < section_count net.tree
-    → path_loss net d s ≡ loss_of (pair_of net d s) + sum_by (λ x. loss_of (pair_of net d x)) (from_neighbour (way net.tree) (neighbour net.tree s))
+    → path_loss net d s ≡ loss_of (pair_of net d s) + sum_by (λ x. loss_of (pair_of net d x))
+    (from_neighbour (way net.tree) (neighbour net.tree s))
 path_loss-first net d s valid within =
     let loss : ℕ → ℕ = λ x. loss_of (pair_of net d x) in
     ap (sum_by loss) (way-first net.tree s valid.tree within)

@@ -25,11 +25,13 @@ pub record IsWalked (net : Network) (d : Design) (leaf : ℕ) (at : Option ℕ) 
   pub section : IfSome at (λ s. s < section_count net.tree)
   pub rest : lost + sum_by (λ s. loss_of (pair_of net d s)) (from_neighbour (way net.tree) at) ≡ path_loss net d leaf
 
-pub walked-none : (net : Network) (d : Design) (leaf : ℕ) → IsTrue (is_leaf net.tree leaf) → IsWalked net d leaf (Some leaf) 0
+pub walked-none : (net : Network) (d : Design) (leaf : ℕ) → IsTrue (is_leaf net.tree leaf)
+    → IsWalked net d leaf (Some leaf) 0
 walked-none net d leaf is = record { section = leaf_within net.tree leaf is; rest = omega arith }
 
 walked-sum : (net : Network) (d : Design) (leaf s lost : ℕ) → IsNetwork net → IsWalked net d leaf (Some s) lost
-    → (lost + loss_of (pair_of net d s)) + sum_by (λ x. loss_of (pair_of net d x)) (from_neighbour (way net.tree) (neighbour net.tree s))
+    → (lost + loss_of (pair_of net d s)) + sum_by (λ x. loss_of (pair_of net d x))
+    (from_neighbour (way net.tree) (neighbour net.tree s))
     ≡ path_loss net d leaf
 walked-sum net d leaf s lost valid walked =
     let first = path_loss-first net d s valid walked.section in
@@ -61,7 +63,8 @@ walked-all net d leaf (Some s) lost at_fan walked = absurd (at_fan s refl)
 
 -- the fans' costs and the prices of the sections before s
 pub record IsAdded (net : Network) (d : Design) (s total : ℕ) : Type 0 where
-  pub rest : total + sum_by (λ x. price_of (pair_of net d x)) (range_with_len s (section_count net.tree - s)) ≡ cost net d
+  pub rest : total + sum_by (λ x. price_of (pair_of net d x)) (range_with_len s (section_count net.tree - s)) ≡
+      cost net d
 
 pub cost-le : (net : Network) (d : Design) → IsNetwork net → fans_cost net d.fan d.back ≤ 2 * MAX_FAN_COST
     → cost net d ≤ MAX_SECTIONS * MAX_PRICE + 2 * MAX_FAN_COST
@@ -76,13 +79,16 @@ added-none net d =
     record { rest = omega arith }
 
 added-sum : (net : Network) (d : Design) (s total : ℕ) → s < section_count net.tree → IsAdded net d s total
-    → (total + price_of (pair_of net d s)) + sum_by (λ x. price_of (pair_of net d x)) (range_with_len (s + 1) (section_count net.tree - (s + 1)))
+    → (total + price_of (pair_of net d s)) + sum_by (λ x. price_of (pair_of net d x))
+    (range_with_len (s + 1) (section_count net.tree - (s + 1)))
     ≡ cost net d
 added-sum net d s total within added =
     let price : ℕ → ℕ = λ x. price_of (pair_of net d x) in
     let count : section_count net.tree - s ≡ suc (section_count net.tree - (s + 1)) = omega arith in
-    let first : sum_by price (range_with_len s (section_count net.tree - s)) ≡ price s + sum_by price (range_with_len (s + 1) (section_count net.tree - (s + 1))) =
-    ap (λ n. sum_by price (range_with_len s n)) count ∙ sum_by-cons price s (range_with_len (s + 1) (section_count net.tree - (s + 1))) in
+    let first : sum_by price (range_with_len s (section_count net.tree - s)) ≡ price s + sum_by price
+    (range_with_len (s + 1) (section_count net.tree - (s + 1))) =
+    ap (λ n. sum_by price (range_with_len s n)) count ∙ sum_by-cons price s
+    (range_with_len (s + 1) (section_count net.tree - (s + 1))) in
     let whole = added.rest in
     omega arith
 
@@ -90,7 +96,8 @@ pub added-more : (net : Network) (d : Design) (s total : ℕ) → s < section_co
     → IsAdded net d (s + 1) (total + price_of (pair_of net d s))
 added-more net d s total within added = record { rest = added-sum net d s total within added }
 
-pub added-fits : (net : Network) (d : Design) (s total : ℕ) → IsNetwork net → fans_cost net d.fan d.back ≤ 2 * MAX_FAN_COST
+pub added-fits : (net : Network) (d : Design) (s total : ℕ) → IsNetwork net
+    → fans_cost net d.fan d.back ≤ 2 * MAX_FAN_COST
     → s < section_count net.tree → IsAdded net d s total
     → total + price_of (pair_of net d s) ≤ MAX_SECTIONS * MAX_PRICE + 2 * MAX_FAN_COST
 added-fits net d s total valid fans within added =
@@ -98,7 +105,8 @@ added-fits net d s total valid fans within added =
     let most = cost-le net d valid fans in
     omega arith
 
-pub added-all : (net : Network) (d : Design) (s total : ℕ) → section_count net.tree ≤ s → IsAdded net d s total → total ≡ cost net d
+pub added-all : (net : Network) (d : Design) (s total : ℕ) → section_count net.tree ≤ s → IsAdded net d s total
+    → total ≡ cost net d
 added-all net d s total past added =
     let none : section_count net.tree - s ≡ 0 = omega arith in
     let whole : total + sum_by (λ x. price_of (pair_of net d x)) (range_with_len s 0) ≡ cost net d =
@@ -107,10 +115,12 @@ added-all net d s total past added =
 
 -- the greatest path loss of the side's leaves before place i of all leaves
 pub record IsGreatest (net : Network) (d : Design) (x : Side) (i : ℕ) (found : List ℕ) (most : ℕ) : Type 0 where
-  pub rest : fold max most (map (path_loss net d) (filter (λ s. same_side (side net.tree s) x) (drop i found))) ≡ worst net d x
+  pub rest : fold max most (map (path_loss net d) (filter (λ s. same_side (side net.tree s) x) (drop i found))) ≡
+      worst net d x
   pub bound : most ≤ MAX_SECTIONS * MAX_LOSS
 
-pub greatest-none : (net : Network) (d : Design) (x : Side) (found : List ℕ) → found ≡ all_leaves net.tree → IsGreatest net d x 0 found 0
+pub greatest-none : (net : Network) (d : Design) (x : Side) (found : List ℕ) → found ≡ all_leaves net.tree
+    → IsGreatest net d x 0 found 0
 greatest-none net d x found are = record {
   rest =
       ap (λ xs. fold max 0 (map (path_loss net d) (filter (λ s. same_side (side net.tree s) x) xs))) are
@@ -127,32 +137,42 @@ next-leaf net d x i found most within greatest on_side is =
     let test : ℕ → Bool = λ s. same_side (side net.tree s) x in
     let later : List ℕ = drop (suc i) found in
     let whole : fold max most (map (path_loss net d) (filter test (get_or found i 0 ∷ later))) ≡ worst net d x =
-    subst (λ xs. fold max most (map (path_loss net d) (filter test xs)) ≡ worst net d x) (drop-cons found i 0 within) greatest.rest in
-    let by_test : fold max most (map (path_loss net d) (cond on_side (get_or found i 0 ∷ filter test later) (filter test later))) ≡ worst net d x =
-    subst (λ b. fold max most (map (path_loss net d) (cond b (get_or found i 0 ∷ filter test later) (filter test later))) ≡ worst net d x) (sym is) whole in
-    let at_suc : fold max (cond on_side (max most (path_loss net d (get_or found i 0))) most) (map (path_loss net d) (filter test later)) ≡ worst net d x =
-    elim on_side as (λ b. fold max most (map (path_loss net d) (cond b (get_or found i 0 ∷ filter test later) (filter test later))) ≡ worst net d x
-    → fold max (cond b (max most (path_loss net d (get_or found i 0))) most) (map (path_loss net d) (filter test later)) ≡ worst net d x) [
+    subst (λ xs. fold max most (map (path_loss net d) (filter test xs)) ≡ worst net d x)
+    (drop-cons found i 0 within) greatest.rest in
+    let by_test : fold max most (map (path_loss net d)
+    (cond on_side (get_or found i 0 ∷ filter test later) (filter test later))) ≡ worst net d x =
+    subst (λ b. fold max most (map (path_loss net d)
+    (cond b (get_or found i 0 ∷ filter test later) (filter test later))) ≡ worst net d x) (sym is) whole in
+    let at_suc : fold max (cond on_side (max most (path_loss net d (get_or found i 0))) most)
+    (map (path_loss net d) (filter test later)) ≡ worst net d x =
+    elim on_side as (λ b. fold max most (map (path_loss net d)
+    (cond b (get_or found i 0 ∷ filter test later) (filter test later))) ≡ worst net d x
+    → fold max (cond b (max most (path_loss net d (get_or found i 0))) most)
+    (map (path_loss net d) (filter test later)) ≡ worst net d x) [
       | true ↦ λ e. e
       | false ↦ λ e. e
     ] by_test in
     let more : suc i ≡ i + 1 = omega arith in
-    subst (λ n. fold max (cond on_side (max most (path_loss net d (get_or found i 0))) most) (map (path_loss net d) (filter test (drop n found))) ≡ worst net d x)
+    subst (λ n. fold max (cond on_side (max most (path_loss net d (get_or found i 0))) most)
+    (map (path_loss net d) (filter test (drop n found))) ≡ worst net d x)
     more at_suc
 
 -- a leaf of the side more, or one of the other side
 pub greatest-yes : (net : Network) (d : Design) (x : Side) (i : ℕ) (found : List ℕ) (most loss : ℕ) → i < length found
     → IsGreatest net d x i found most → same_side (side net.tree (get_or found i 0)) x ≡ true
-    → loss ≡ path_loss net d (get_or found i 0) → loss ≤ MAX_SECTIONS * MAX_LOSS → IsGreatest net d x (i + 1) found (max most loss)
+    → loss ≡ path_loss net d (get_or found i 0) → loss ≤ MAX_SECTIONS * MAX_LOSS
+    → IsGreatest net d x (i + 1) found (max most loss)
 greatest-yes net d x i found most loss within greatest is lost few = record {
   rest =
-      ap (λ n. fold max (max most n) (map (path_loss net d) (filter (λ s. same_side (side net.tree s) x) (drop (i + 1) found)))) lost
+      ap (λ n. fold max (max most n) (map (path_loss net d)
+      (filter (λ s. same_side (side net.tree s) x) (drop (i + 1) found)))) lost
       ∙ next-leaf net d x i found most within greatest true (sym is);
   bound = let bounded = greatest.bound in omega arith;
 }
 
 pub greatest-no : (net : Network) (d : Design) (x : Side) (i : ℕ) (found : List ℕ) (most : ℕ) → i < length found
-    → IsGreatest net d x i found most → same_side (side net.tree (get_or found i 0)) x ≡ false → IsGreatest net d x (i + 1) found most
+    → IsGreatest net d x i found most → same_side (side net.tree (get_or found i 0)) x ≡ false
+    → IsGreatest net d x (i + 1) found most
 greatest-no net d x i found most within greatest is = record {
   rest = next-leaf net d x i found most within greatest false (sym is);
   bound = greatest.bound;
@@ -161,4 +181,5 @@ greatest-no net d x i found most within greatest is = record {
 pub greatest-all : (net : Network) (d : Design) (x : Side) (i : ℕ) (found : List ℕ) (most : ℕ) → length found ≤ i
     → IsGreatest net d x i found most → most ≡ worst net d x
 greatest-all net d x i found most past greatest =
-    ap (λ xs. fold max most (map (path_loss net d) (filter (λ s. same_side (side net.tree s) x) xs))) (sym (drop_all i found past)) ∙ greatest.rest
+    ap (λ xs. fold max most (map (path_loss net d) (filter (λ s. same_side (side net.tree s) x) xs)))
+    (sym (drop_all i found past)) ∙ greatest.rest

@@ -25,13 +25,16 @@ loop-s-preserved c =
           let n : ℕ = w.in-Some.n in
           let before : n < s = stands_earlier nb s n c.requires.earlier c.loop-s-test.true w.in-Some.is in
           let count = c.loop-s.invariant.count in
-          let read = get_or_read c.loop-s.counts.items n w.index_mut.result.now (omega arith) w.index_mut.ensures.value 0 in
+          let read = get_or_read c.loop-s.counts.items n w.index_mut.result.now (omega arith)
+          w.index_mut.ensures.value 0 in
           let is = c.loop-s.invariant.each n (omega arith) in
           let long = length_push (children_among s nb n) s in
-          rw w.counts-is (filled-push (λ children. length children) 0 s nb c.loop-s.counts.items n (w.index_mut.result.now + 1)
+          rw w.counts-is (filled-push (λ children. length children) 0 s nb c.loop-s.counts.items n
+          (w.index_mut.result.now + 1)
           w.in-Some.is (omega arith) (omega arith) c.loop-s.invariant)
       | in_default w ↦
-          rw w.counts-is (filled-at_fan (λ children. length children) 0 s nb c.loop-s.counts.items w.in_default.not-Some c.loop-s.invariant)
+          rw w.counts-is (filled-at_fan (λ children. length children) 0 s nb c.loop-s.counts.items
+          w.in_default.not-Some c.loop-s.invariant)
     ]
 
 pub returns : goal.returns
@@ -39,4 +42,5 @@ returns c =
     let nb = c.args.neighbours.now in
     let all : c.loop-s.s ≡ length nb = omega arith in
     filled-all (λ children. length children) 0 nb c.loop-s.counts.items
-    (subst (λ (done : ℕ). AreFilled (λ children. length children) 0 done nb c.loop-s.counts.items) all c.loop-s.invariant)
+    (subst (λ (done : ℕ). AreFilled (λ children. length children) 0 done nb c.loop-s.counts.items) all
+    c.loop-s.invariant)

@@ -21,8 +21,10 @@ loop-s-init c =
 pub index_mut-requires : goal.index_mut-requires
 index_mut-requires c =
     let nb = c.args.neighbours.now in
-    let before : c.in-Some.n < c.loop-s.s = stands_earlier nb c.loop-s.s c.in-Some.n c.requires.earlier c.loop-s-test.true c.in-Some.is in
-    let count : length c.loop-s.lists.items ≡ length nb = sym (length-map c.loop-s.lists.items items) ∙ c.loop-s.invariant.count in
+    let before : c.in-Some.n < c.loop-s.s = stands_earlier nb c.loop-s.s c.in-Some.n c.requires.earlier
+    c.loop-s-test.true c.in-Some.is in
+    let count : length c.loop-s.lists.items ≡ length nb = sym (length-map c.loop-s.lists.items items) ∙
+    c.loop-s.invariant.count in
     omega (arith, c.loop-s.lists.ok.0)
 
 pub loop-s-preserved : goal.loop-s-preserved
@@ -41,9 +43,11 @@ loop-s-preserved c =
           w.in_ok-push.ensures.items ∙ ap (λ xs. xs ++ s ∷ []) (read ∙ c.loop-s.invariant.each n (omega arith)) in
           rw (w.lists-is) (subst (λ (xs : List (List ℕ)). AreFilled (λ children. children) [] (s + 1) nb xs)
           (sym (map-set items lists n w.push.new.self))
-          (filled-push (λ children. children) [] s nb (map items lists) n w.push.new.self.items w.in-Some.is (omega arith) is c.loop-s.invariant))
+          (filled-push (λ children. children) [] s nb (map items lists) n w.push.new.self.items w.in-Some.is
+          (omega arith) is c.loop-s.invariant))
       | in_default w ↦
-          rw w.lists-is (filled-at_fan (λ children. children) [] s nb (map items lists) w.in_default.not-Some c.loop-s.invariant)
+          rw w.lists-is (filled-at_fan (λ children. children) [] s nb (map items lists) w.in_default.not-Some
+          c.loop-s.invariant)
     ]
 
 pub returns : goal.returns
@@ -51,5 +55,6 @@ returns c =
     let nb = c.args.neighbours.now in
     let all : c.loop-s.s ≡ length nb = omega arith in
     let are = filled-all (λ children. children) [] nb (map items c.loop-s.lists.items)
-    (subst (λ (done : ℕ). AreFilled (λ children. children) [] done nb (map items c.loop-s.lists.items)) all c.loop-s.invariant) in
+    (subst (λ (done : ℕ). AreFilled (λ children. children) [] done nb (map items c.loop-s.lists.items)) all
+    c.loop-s.invariant) in
     subst (λ (xs : List (List ℕ)). IfOk c.as_lists.result (λ lists. lists ≡ xs)) are c.as_lists.ensures

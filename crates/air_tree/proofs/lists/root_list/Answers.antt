@@ -12,7 +12,9 @@ loop-s-preserved c =
     let s : ℕ = c.loop-s.s in
     elim c.if-is_root_of.branch [
       | then-is_root_of+in_ok-push w ↦ rw (w.found-is, w.in_ok-push.ensures.items)
-          (chosen-yes (λ x. same_side (side t x) c.args.side && is_root t x) s c.loop-s.found.items c.loop-s.invariant (sym c.is_root_of.ensures ∙ w.if-is_root_of.true))
+          (chosen-yes (λ x. same_side (side t x) c.args.side && is_root t x) s c.loop-s.found.items
+          c.loop-s.invariant (sym c.is_root_of.ensures ∙ w.if-is_root_of.true))
       | else-is_root_of w ↦ rw w.found-is
-          (chosen-no (λ x. same_side (side t x) c.args.side && is_root t x) s c.loop-s.found.items c.loop-s.invariant (sym c.is_root_of.ensures ∙ w.if-is_root_of.false))
+          (chosen-no (λ x. same_side (side t x) c.args.side && is_root t x) s c.loop-s.found.items
+          c.loop-s.invariant (sym c.is_root_of.ensures ∙ w.if-is_root_of.false))
     ]

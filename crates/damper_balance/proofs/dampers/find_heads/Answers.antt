@@ -5,9 +5,11 @@ use Rattle.damper_balance.proofs.FoundDampers.{worst_found}
 use Rattle.damper_balance.proofs.dampers.find_heads.Goals as goal
 use Rattle.damper_balance.proofs.dampers.find_heads.Goals.{After-greatest-return_worst}
 
-return_is : (c : After-greatest-return_worst) → c.greatest-return_worst.result ≡ worst c.args.net.now c.args.d.now Return
+return_is : (c : After-greatest-return_worst)
+    → c.greatest-return_worst.result ≡ worst c.args.net.now c.args.d.now Return
 return_is c =
-    worst_found c.args.net.now c.args.d.now Return c.tree-tree.result.now c.args.losses.now c.greatest-return_worst.result
+    worst_found c.args.net.now c.args.d.now Return c.tree-tree.result.now c.args.losses.now
+    c.greatest-return_worst.result
     c.tree-tree.ensures.tree c.requires.losses c.greatest-return_worst.ensures
 
 pub head-requires-clause-back : goal.head-requires-clause-back
@@ -19,7 +21,8 @@ head-requires-2-clause-back c = return_is (goal.at.head-requires-2-clause-back c
 pub returns : goal.returns
 returns c = record {
   supply_worst =
-      worst_found c.args.net.now c.args.d.now Supply c.tree-tree.result.now c.args.losses.now c.greatest-supply_worst.result
+      worst_found c.args.net.now c.args.d.now Supply c.tree-tree.result.now c.args.losses.now
+      c.greatest-supply_worst.result
       c.tree-tree.ensures.tree c.requires.losses c.greatest-supply_worst.ensures;
   supply = c.head.ensures;
   return_worst = return_is (goal.at.returns c).After-greatest-return_worst;

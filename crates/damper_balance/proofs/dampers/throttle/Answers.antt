@@ -9,7 +9,8 @@ use Rattle.damper_balance.proofs.dampers.throttle.Goals as goal
 pub less_neighbours-requires-clause-fits : goal.less_neighbours-requires-clause-fits
 less_neighbours-requires-clause-fits c =
     let slacks = c.slacks.new.numbers in
-    subst (λ (t : Tree). (s : ℕ) → s < section_count t → at_neighbour (slice_index slacks) (neighbour t s) ≤ slice_index slacks s)
+    subst (λ (t : Tree). (s : ℕ) → s < section_count t
+    → at_neighbour (slice_index slacks) (neighbour t s) ≤ slice_index slacks s)
     (sym c.tree.ensures.tree)
     (slacks_fit c.args.net.now c.args.d.now slacks c.tree.ensures.network.tree c.slacks.ensures)
 
@@ -17,5 +18,6 @@ pub returns-clause-dampers : goal.returns-clause-dampers
 returns-clause-dampers c =
     let less = subst (λ (t : Tree). ListsEach t (less_beside t c.slacks.new.numbers) c.less_neighbours.new.numbers)
     c.tree.ensures.tree c.less_neighbours.ensures in
-    dampers_found c.args.net.now c.args.d.now c.slacks.new.numbers c.less_neighbours.new.numbers c.tree.ensures.network.tree
+    dampers_found c.args.net.now c.args.d.now c.slacks.new.numbers c.less_neighbours.new.numbers
+    c.tree.ensures.network.tree
     c.slacks.ensures less

@@ -9,5 +9,6 @@ returns c =
     let t = c.args.tree.now in
     let step : ℕ → ℕ → ℕ = greater (is_of t c.args.side) c.args.numbers.now in
     c.loop-leaf.invariant
-    ∙ ap (λ (ss : List ℕ). fold step 0 ss) (take_all c.loop-leaf.leaf-index c.leaves-leaf-items.result.now (omega arith) ∙ c.leaves-leaf-items.ensures.value)
+    ∙ ap (λ (ss : List ℕ). fold step 0 ss) (take_all c.loop-leaf.leaf-index c.leaves-leaf-items.result.now
+    (omega arith) ∙ c.leaves-leaf-items.ensures.value)
     ∙ greatest_of_side t c.args.side c.args.numbers.now

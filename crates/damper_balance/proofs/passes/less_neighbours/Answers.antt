@@ -9,5 +9,6 @@ loop-s-preserved c =
     let s : ℕ = c.loop-s.s - 1 in
     let within : s < section_count t = omega arith in
     let next : c.loop-s.s ≡ s + 1 = omega arith in
-    next_less t c.args.numbers.now c.loop-s.numbers c.loop-s.s s c.number_beside.result c.len-s.ensures.tree within next
+    next_less t c.args.numbers.now c.loop-s.numbers c.loop-s.s s c.number_beside.result c.len-s.ensures.tree within
+    next
     c.loop-s.invariant c.number_beside.ensures

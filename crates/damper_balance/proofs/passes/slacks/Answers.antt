@@ -9,32 +9,38 @@ use Rattle.damper_balance.proofs.passes.slacks.Goals as goal
 use Rattle.damper_balance.proofs.passes.slacks.Goals.{After-least_number, in-Some, in-None}
 
 within : (c : After-least_number) → c.loop-s.s - 1 < section_count c.args.net.now.tree
-within c = let all = c.len-s.ensures.value ∙ ap (λ (t : Tree). section_count t) c.tree-tree.ensures.tree in omega arith
+within c = let all = c.len-s.ensures.value ∙ ap (λ (t : Tree). section_count t) c.tree-tree.ensures.tree in omega
+    arith
 
 next : (c : After-least_number) → c.loop-s.s ≡ (c.loop-s.s - 1) + 1
 next c = omega arith
 
-least_is : (c : After-least_number) → c.least_number.result ≡ least_at c.loop-s.numbers (children c.args.net.now.tree (c.loop-s.s - 1))
+least_is : (c : After-least_number)
+    → c.least_number.result ≡ least_at c.loop-s.numbers (children c.args.net.now.tree (c.loop-s.s - 1))
 least_is c =
     c.least_number.ensures
     ∙ ap (λ (cs : List ℕ). least_at c.loop-s.numbers cs)
     (c.children.ensures.value ∙ ap (λ (t : Tree). children t (c.loop-s.s - 1)) c.tree-tree.ensures.tree)
 
-leaf_where_none : (c : After-least_number) → c.least_number.result ≡ None → is_leaf c.args.net.now.tree (c.loop-s.s - 1) ≡ true
+leaf_where_none : (c : After-least_number) → c.least_number.result ≡ None
+    → is_leaf c.args.net.now.tree (c.loop-s.s - 1) ≡ true
 leaf_where_none c none =
     least_none c.args.net.now.tree (c.loop-s.s - 1) c.loop-s.numbers (within c) (sym none ∙ least_is c)
 
 slack_written : (c : After-least_number) (number : ℕ) → number ≡ slack c.args.net.now c.args.d.now (c.loop-s.s - 1)
-    → IsWrittenTo c.args.net.now.tree (path_loss c.args.net.now c.args.d.now) (slack c.args.net.now c.args.d.now) (c.loop-s.s - 1)
+    → IsWrittenTo c.args.net.now.tree (path_loss c.args.net.now c.args.d.now) (slack c.args.net.now c.args.d.now)
+    (c.loop-s.s - 1)
     (set c.loop-s.numbers (c.loop-s.s - 1) number)
 slack_written c number is =
-    written-down c.args.net.now.tree (path_loss c.args.net.now c.args.d.now) (slack c.args.net.now c.args.d.now) c.loop-s.s
+    written-down c.args.net.now.tree (path_loss c.args.net.now c.args.d.now) (slack c.args.net.now c.args.d.now)
+    c.loop-s.s
     (c.loop-s.s - 1) c.loop-s.numbers number (within c) (next c) c.loop-s.invariant is
 
 pub overflow_sub-numbers : goal.overflow_sub-numbers
 overflow_sub-numbers c =
     let before = (goal.at.overflow_sub-numbers c).After-least_number in
-    loss-le-head c.args.net.now c.args.d.now c.loop-s.s (c.loop-s.s - 1) c.loop-s.numbers c.head_at.result c.requires.design
+    loss-le-head c.args.net.now c.args.d.now c.loop-s.s (c.loop-s.s - 1) c.loop-s.numbers c.head_at.result
+    c.requires.design
     (within before) (next before) c.loop-s.invariant (leaf_where_none before c.in-None.is) c.head_at.ensures
 
 pub loop-s-preserved : goal.loop-s-preserved

@@ -18,7 +18,8 @@ loop-point-preserved c =
     let kept = c.loop-point.invariant in
     let cut = c.within-rest.ensures in
     let offer = shares c.args.number fan supply back in
-    let serves = serves_now supply back rest part fan.pressure i _ c.loop-point-test.true kept.prices cut.part cut.beyond in
+    let serves = serves_now supply back rest part fan.pressure i _ c.loop-point-test.true kept.prices cut.part
+    cut.beyond in
     let next = share-left c.args.number fan back supply part i _ c.loop-point-test.true
     (c.requires.affordable i _ c.loop-point-test.true) serves cut.within in
     record {
@@ -28,7 +29,8 @@ loop-point-preserved c =
           ∙ sym (first_cheapest-more price offer i);
       front = part_front rest part cut.part kept.front;
       costs = part_all rest part cut.part (λ p. p.cost < COST_LIMIT) kept.costs;
-      prices = serves_later supply back rest part fan.pressure i _ c.loop-point-test.true kept.prices cut.part cut.beyond
+      prices = serves_later supply back rest part fan.pressure i _ c.loop-point-test.true kept.prices cut.part
+          cut.beyond
           c.requires.supply_front;
     }
 

@@ -10,19 +10,23 @@ overflow_add-cost c =
     let net = c.args.net.now in
     let d = c.args.d.now in
     let fans = subst (λ n. n ≤ 2 * MAX_FAN_COST) c.fans_cost-cost.ensures.value c.fans_cost-cost.ensures.bound in
-    let all : c.len-s-end.result ≡ section_count net.tree = c.len-s-end.ensures.value ∙ ap (λ (t : Tree). section_count t) c.tree-tree.ensures.tree in
-    let fits = added-fits net d c.loop-s.s c.loop-s.cost c.tree-tree.ensures.network fans (omega arith) c.loop-s.invariant in
+    let all : c.len-s-end.result ≡ section_count net.tree = c.len-s-end.ensures.value ∙ ap
+    (λ (t : Tree). section_count t) c.tree-tree.ensures.tree in
+    let fits = added-fits net d c.loop-s.s c.loop-s.cost c.tree-tree.ensures.network fans (omega arith)
+    c.loop-s.invariant in
     let is : c.price_at-cost.result ≡ price_of (pair_of net d c.loop-s.s) = c.price_at-cost.ensures in
     omega arith
 
 pub loop-s-init : goal.loop-s-init
-loop-s-init c = subst (IsAdded c.args.net.now c.args.d.now 0) (sym c.fans_cost-cost.ensures.value) (added-none c.args.net.now c.args.d.now)
+loop-s-init c = subst (IsAdded c.args.net.now c.args.d.now 0) (sym c.fans_cost-cost.ensures.value)
+    (added-none c.args.net.now c.args.d.now)
 
 pub loop-s-preserved : goal.loop-s-preserved
 loop-s-preserved c =
     let net = c.args.net.now in
     let d = c.args.d.now in
-    let all : c.len-s-end.result ≡ section_count net.tree = c.len-s-end.ensures.value ∙ ap (λ (t : Tree). section_count t) c.tree-tree.ensures.tree in
+    let all : c.len-s-end.result ≡ section_count net.tree = c.len-s-end.ensures.value ∙ ap
+    (λ (t : Tree). section_count t) c.tree-tree.ensures.tree in
     subst (λ (price : ℕ). IsAdded net d (c.loop-s.s + 1) (c.loop-s.cost + price)) (sym c.price_at-cost.ensures)
     (added-more net d c.loop-s.s c.loop-s.cost (omega arith) c.loop-s.invariant)
 
@@ -31,7 +35,9 @@ returns c =
     let net = c.args.net.now in
     let d = c.args.d.now in
     let fans = subst (λ n. n ≤ 2 * MAX_FAN_COST) c.fans_cost-cost.ensures.value c.fans_cost-cost.ensures.bound in
-    let all : c.len-s-end.result ≡ section_count net.tree = c.len-s-end.ensures.value ∙ ap (λ (t : Tree). section_count t) c.tree-tree.ensures.tree in
-    let whole : c.loop-s.cost ≡ cost net d = added-all net d c.loop-s.s c.loop-s.cost (omega arith) c.loop-s.invariant in
+    let all : c.len-s-end.result ≡ section_count net.tree = c.len-s-end.ensures.value ∙ ap
+    (λ (t : Tree). section_count t) c.tree-tree.ensures.tree in
+    let whole : c.loop-s.cost ≡ cost net d = added-all net d c.loop-s.s c.loop-s.cost (omega arith)
+    c.loop-s.invariant in
     let most = cost-le net d c.tree-tree.ensures.network fans in
     record { value = whole; bound = omega arith }

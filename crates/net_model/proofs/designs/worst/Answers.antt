@@ -18,14 +18,17 @@ loop-leaf-preserved c =
     let on_side = sym c.is_on.ensures in
     elim c.if-is_on.branch [
       | then-is_on w ↦
-          rw (w.most-is, w.max-most.ensures) (greatest-yes net d c.args.side i found c.loop-leaf.most w.path_loss.result c.loop-leaf-test.true c.loop-leaf.invariant
+          rw (w.most-is, w.max-most.ensures) (greatest-yes net d c.args.side i found c.loop-leaf.most
+          w.path_loss.result c.loop-leaf-test.true c.loop-leaf.invariant
           (on_side ∙ w.if-is_on.true) w.path_loss.ensures.value w.path_loss.ensures.bound)
       | else-is_on w ↦
-          rw w.most-is (greatest-no net d c.args.side i found c.loop-leaf.most c.loop-leaf-test.true c.loop-leaf.invariant (on_side ∙ w.if-is_on.false))
+          rw w.most-is (greatest-no net d c.args.side i found c.loop-leaf.most c.loop-leaf-test.true
+          c.loop-leaf.invariant (on_side ∙ w.if-is_on.false))
     ]
 
 pub returns : goal.returns
 returns c =
-    let whole = greatest-all c.args.net.now c.args.d.now c.args.side c.loop-leaf.leaf-index c.leaves-leaf-items.result.now c.loop-leaf.most
+    let whole = greatest-all c.args.net.now c.args.d.now c.args.side c.loop-leaf.leaf-index
+    c.leaves-leaf-items.result.now c.loop-leaf.most
     c.loop-leaf-test.false c.loop-leaf.invariant in
     record { value = whole; bound = c.loop-leaf.invariant.bound }

@@ -9,7 +9,8 @@ within c = subst (λ (t : Tree). c.args.s < section_count t) (sym c.self.view_is
 
 pub bounds-as_slice-s : goal.bounds-as_slice-s
 bounds-as_slice-s c =
-    child_list_within (tree_of c.self.inside) c.as_slice.result.now c.args.s (c.as_slice.ensures ∙ c.self.invariant.children) (within c)
+    child_list_within (tree_of c.self.inside) c.as_slice.result.now c.args.s
+    (c.as_slice.ensures ∙ c.self.invariant.children) (within c)
 
 found : (c : goal.After-as_slice-2) → AreChildren c.args.self.now c.args.s c.as_slice-2.result.now
 found c =

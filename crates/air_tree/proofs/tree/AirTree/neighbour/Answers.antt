@@ -8,5 +8,7 @@ use Rattle.air_tree.proofs.tree.AirTree.neighbour.Goals as goal
 pub returns-clause-earlier : goal.returns-clause-earlier
 returns-clause-earlier c =
     let t : Tree = tree_of c.self.inside in
-    let within : c.args.s < section_count t = subst (λ (v : Tree). c.args.s < section_count v) (sym c.self.view_is) c.requires in
-    rw (c.as_slice.ensures, ← unwrap_or-slice_get c.self.inside.neighbours c.args.s None) (neighbour_earlier t c.args.s c.self.invariant.tree within)
+    let within : c.args.s < section_count t = subst (λ (v : Tree). c.args.s < section_count v) (sym c.self.view_is)
+    c.requires in
+    rw (c.as_slice.ensures, ← unwrap_or-slice_get c.self.inside.neighbours c.args.s None)
+    (neighbour_earlier t c.args.s c.self.invariant.tree within)
