@@ -1,4 +1,5 @@
 -- The fronts of the last sections, in falling section numbers.
+--   AreFrontsFrom net s entries   one entry for each section from s on, the last section first
 use Rattle.std.specs.Prelude.{◌≡◌, ℕ, ◌+◌, List, length, slice_get, Some}
 use Rattle.duct_definitions.specs.Network.{Network}
 use Rattle.duct_definitions.specs.Tree.{section_count}

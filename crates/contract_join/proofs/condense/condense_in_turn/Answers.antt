@@ -1,8 +1,8 @@
 use Rattle.std.proofs.Common.{◌≡◌, ℕ, ◌+◌, ◌-◌, arith, sym, ◌∙◌, subst, List}
 use Rattle.contract_join.specs.SectionFronts.{SectionData}
-use Rattle.contract_join.specs.Contract.{AreFrontsFrom}
+use Rattle.contract_join.specs.Condensing.{AreFrontsFrom}
 use Rattle.contract_join.proofs.InTurn.{AreFrontsFrom-push}
-use Rattle.contract_join.proofs.contract.contract_in_turn.Goals as goal
+use Rattle.contract_join.proofs.condense.condense_in_turn.Goals as goal
 
 pub loop-done-preserved : goal.loop-done-preserved
 loop-done-preserved c =
