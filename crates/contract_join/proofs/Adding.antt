@@ -1,122 +1,93 @@
 -- What sections cost together, one section more at a time, and the front of it.
-use Rattle.std.proofs.Common.{◌≡◌, ℕ, ◌+◌, ◌*◌, ◌≤◌, true, refl, ap, sym, ◌∙◌, arith, subst, List, [], ◌∷◌, ◌++◌, Some, length, take}
+use Rattle.std.proofs.Common.{◌≡◌, ℕ, ◌+◌, ◌*◌, ◌<◌, ◌≤◌, ◌^◌, true, refl, ap, sym, ◌∙◌, arith, subst, List, [], ◌∷◌, ◌++◌, Some, length, take}
 use Rattle.std.specs.Prelude.{slice_get}
 use Rattle.std.proofs.lemmas.List.{length_push, take_more}
 use Rattle.std.proofs.lemmas.List.Elements.{All-nil, All-push, All-weaker}
 use Rattle.std.proofs.lemmas.Option.{slice_get_within, get_or_from_slice_get}
-use Rattle.std.proofs.Math.Nat.{mul-le-mul_left}
 use Rattle.pareto_front.specs.declared.point.Point.{Point}
-use Rattle.pareto_front.specs.Front.{cheapest}
-use Rattle.duct_definitions.specs.declared.limits.TheConstants.{MAX_SECTIONS, MAX_PRICE}
+use Rattle.pareto_front.specs.Front.{NeedsWithin, CostsWithin, cheapest}
+use Rattle.pareto_front.specs.FrontSum.{together, greatest_together, IsTotal, CostsAlike}
+use Rattle.pareto_front.proofs.Together.{together-push, greatest_together-push, greatest_cost-le}
 use Rattle.duct_definitions.specs.Tree.{Tree, section_count, children, neighbour, is_number}
 use Rattle.duct_definitions.proofs.SectionLists.{chosen_pass, is_number-some}
 use Rattle.least_laws.proofs.DuctsOf.{columns-child}
-use Rattle.duct_definitions.specs.Network.{Network, IsNetwork, size_count, columns, cap}
+use Rattle.duct_definitions.specs.Network.{Network, size_count, columns, cap}
 use Rattle.duct_units.specs.Prices.{both_of}
 use Rattle.least_laws.specs.Prices.{sum_of}
 use Rattle.least_laws.specs.LeastFromChildren.{least_in}
 use Rattle.least_laws.proofs.SumOf.{sum_of-last}
-use Rattle.contract_join.specs.declared.front_sum.Run.{Run}
-use Rattle.contract_join.specs.SectionFronts.{NeedsWithin, CostsWithin, most_beyond}
-use Rattle.contract_join.specs.FrontSum.{together, count_of, CostWithin, AreSmall, KeepsSum, run_of, in_one}
-use Rattle.contract_join.specs.Join.{AreRunsOf, AddsSection, HasRoom}
-use Rattle.contract_join.proofs.Fronts.{most_beyond-le}
-use Rattle.contract_join.proofs.Runs.{together-push, together-one, count_of-push}
+use Rattle.contract_join.specs.SectionFronts.{most_beyond}
+use Rattle.contract_join.specs.Join.{AreSumOf, AddsSection, HasRoom}
 
 pub take-none : (xs : List ℕ) → take 0 xs ≡ []
 take-none [] = refl
 take-none (x ∷ xs) = refl
 
 -- no section is added
-pub AreRunsOf-none : (net : Network) (g : ℕ) (runs : List Run) → runs ≡ [] → AreRunsOf net g [] runs
-AreRunsOf-none net g runs none = subst (AreRunsOf net g []) (sym none) (record {
-  count = refl;
+pub AreSumOf-none : (net : Network) (g : ℕ) (fronts : List (List Point)) → fronts ≡ [] → AreSumOf net g [] fronts
+AreSumOf-none net g fronts none = subst (AreSumOf net g []) (sym none) (record {
   value = λ budget in_cap. refl;
-  needs = All-nil (λ run. NeedsWithin (cap net) run.sum);
-  costs = All-nil (λ run. CostsWithin (run.count * most_beyond net) run.sum);
+  needs = All-nil (NeedsWithin (cap net));
+  costs = omega arith;
 })
 
--- where there is room, one front more keeps all small
-module _ (net : Network) (valid : IsNetwork net) (runs : List Run) where
-  one_most : (front : List Point) → CostsWithin (most_beyond net) front → CostsWithin ((run_of front).count * most_beyond net) front
-  one_most front costs = subst (λ m. CostsWithin m front) (let same : most_beyond net ≡ 1 * most_beyond net = omega arith in same) costs
-
-  weaker : (run : Run) → CostsWithin (run.count * most_beyond net) run.sum → CostsWithin (run.count * (MAX_SECTIONS * MAX_PRICE)) run.sum
-  weaker run low =
-      let most = most_beyond-le net valid.tree in
-      let less = mul-le-mul_left run.count most in
-      All-weaker (λ (p : Point). p.cost ≤ run.count * most_beyond net) (λ p. p.cost ≤ run.count * (MAX_SECTIONS * MAX_PRICE))
-      (λ p at_most. omega arith) run.sum low
-
-  small_costs : CostWithin (most_beyond net) runs → CostWithin (MAX_SECTIONS * MAX_PRICE) runs
-  small_costs costs =
-      All-weaker (λ run. CostsWithin (run.count * most_beyond net) run.sum) (λ run. CostsWithin (run.count * (MAX_SECTIONS * MAX_PRICE)) run.sum)
-      weaker runs costs
-
-  pub AreSmall-within : count_of runs ≤ MAX_SECTIONS → CostWithin (most_beyond net) runs → AreSmall runs
-  AreSmall-within few costs = record {
-    few = few;
-    costs = small_costs costs;
-  }
-
-  pub AreSmall-room : (front : List Point) → HasRoom net runs → CostsWithin (most_beyond net) front → AreSmall (runs ++ run_of front ∷ [])
-  AreSmall-room front room costs = record {
-    few = (let more = count_of-push runs (run_of front) in let few = room.few in omega arith);
-    costs = All-push (λ run. CostsWithin (run.count * (MAX_SECTIONS * MAX_PRICE)) run.sum) runs (run_of front) (small_costs room.costs)
-        (weaker (run_of front) (one_most front costs));
-  }
+module _ (net : Network) (fronts : List (List Point)) (front : List Point) (costs : CostsWithin (most_beyond net) front) where
+  -- where there is room, one front more fits
+  pub fits-room : HasRoom net fronts → greatest_together (fronts ++ front ∷ []) < 2 ^ 64
+  fits-room room =
+      let all = greatest_together-push fronts front in
+      let most = greatest_cost-le front (most_beyond net) costs in
+      omega arith
 
   -- the front of a section is added
-  pub AddsSection-front : (g c : ℕ) (front : List Point) (new : List Run) → KeepsSum (runs ++ run_of front ∷ []) new
+  pub AddsSection-front : (g c : ℕ) (new : List (List Point)) → CostsAlike (fronts ++ front ∷ []) new
       → ((budget : ℕ) → budget ≤ cap net → cheapest front budget ≡ least_in net c g budget)
-      → NeedsWithin (cap net) front → CostsWithin (most_beyond net) front → AddsSection net c g runs new
-  AddsSection-front g c front new keeps value needs costs = record {
-    count = keeps.count ∙ count_of-push runs (run_of front);
+      → NeedsWithin (cap net) front → AddsSection net c g fronts new
+  AddsSection-front g c new alike value needs = record {
     value = λ budget in_cap.
-        keeps.value budget ∙ together-push runs (run_of front) budget
-        ∙ ap (both_of (together runs budget)) (value budget in_cap);
-    needs = λ low. keeps.needs (cap net) (All-push (λ run. NeedsWithin (cap net) run.sum) runs (run_of front) low needs);
-    costs = λ low.
-        keeps.costs (most_beyond net)
-        (All-push (λ run. CostsWithin (run.count * most_beyond net) run.sum) runs (run_of front) low (one_most front costs));
+        alike.value budget ∙ together-push fronts front budget
+        ∙ ap (both_of (together fronts budget)) (value budget in_cap);
+    needs = λ low. alike.needs (cap net) (All-push (NeedsWithin (cap net)) fronts front low needs);
+    costs =
+        (let less = alike.costs in
+        let all = greatest_together-push fronts front in
+        let most = greatest_cost-le front (most_beyond net) costs in
+        omega arith);
   }
 
 -- one section more of a list
-pub AreRunsOf-next : (net : Network) (g : ℕ) (sections : List ℕ) (i c : ℕ) (runs new : List Run) → slice_get sections i ≡ Some c
-    → AreRunsOf net g (take i sections) runs → AddsSection net c g runs new → AreRunsOf net g (take (i + 1) sections) new
-AreRunsOf-next net g sections i c runs new next are adds =
+pub AreSumOf-next : (net : Network) (g : ℕ) (sections : List ℕ) (i c : ℕ) (fronts new : List (List Point)) → slice_get sections i ≡ Some c
+    → AreSumOf net g (take i sections) fronts → AddsSection net c g fronts new → AreSumOf net g (take (i + 1) sections) new
+AreSumOf-next net g sections i c fronts new next are adds =
     let within = slice_get_within sections i c next in
     let more : take (i + 1) sections ≡ take i sections ++ c ∷ [] =
     take_more sections i c within ∙ ap (λ x. take i sections ++ x ∷ []) (get_or_from_slice_get sections i c c next) in
-    subst (λ l. AreRunsOf net g l new) (sym more)
+    subst (λ l. AreSumOf net g l new) (sym more)
     (record {
-      count =
-          (let longer = length_push (take i sections) c in
-          let so_far = are.count in
-          let one = adds.count in
-          omega arith);
       value = λ budget in_cap.
           adds.value budget in_cap
           ∙ ap (λ o. both_of o (least_in net c g budget)) (are.value budget in_cap)
           ∙ sym (sum_of-last (λ x. least_in net x g budget) (take i sections) c);
       needs = adds.needs are.needs;
-      costs = adds.costs are.costs;
+      costs = subst (λ n. greatest_together new ≤ n * most_beyond net) (sym (length_push (take i sections) c))
+          (let so_far = are.costs in let one = adds.costs in omega arith);
     })
 
 -- the front of what sections cost together
-pub record IsTotal (net : Network) (g : ℕ) (sections : List ℕ) (front : List Point) : Type 0 where
+pub record IsSumOf (net : Network) (g : ℕ) (sections : List ℕ) (front : List Point) : Type 0 where
   pub value : (budget : ℕ) → budget ≤ cap net → cheapest front budget ≡ sum_of (λ c. least_in net c g budget) sections
   pub needs : NeedsWithin (cap net) front
   pub costs : CostsWithin (length sections * most_beyond net) front
 
-pub IsTotal-of : (net : Network) (g : ℕ) (sections : List ℕ) (runs : List Run) (front : List Point) → AreRunsOf net g sections runs
-    → KeepsSum runs (in_one runs front ∷ []) → IsTotal net g sections front
-IsTotal-of net g sections runs front are keeps = record {
-  value = λ budget in_cap.
-      sym (together-one (in_one runs front) budget) ∙ keeps.value budget ∙ are.value budget in_cap;
-  needs = keeps.needs (cap net) are.needs 0 (in_one runs front) (omega arith);
-  costs = subst (λ n. CostsWithin (n * most_beyond net) front) are.count
-      (keeps.costs (most_beyond net) are.costs 0 (in_one runs front) (omega arith));
+pub IsSumOf-total : (net : Network) (g : ℕ) (sections : List ℕ) (fronts : List (List Point)) (front : List Point)
+    → AreSumOf net g sections fronts → IsTotal fronts front → IsSumOf net g sections front
+IsSumOf-total net g sections fronts front are total = record {
+  value = λ budget in_cap. total.value budget ∙ are.value budget in_cap;
+  needs = total.needs (cap net) are.needs;
+  costs =
+      let most = are.costs in
+      All-weaker (λ (p : Point). p.cost ≤ greatest_together fronts) (λ p. p.cost ≤ length sections * most_beyond net) (λ p low. omega arith)
+      front total.costs;
 }
 
 -- a child's neighbour is the section

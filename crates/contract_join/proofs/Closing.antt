@@ -1,12 +1,12 @@
 -- The fronts of a section from the sums of its children, size by size.
-use Rattle.std.proofs.Common.{◌≡◌, ℕ, zero, suc, ◌+◌, ◌-◌, ◌*◌, ◌<◌, ◌≤◌, ◌^◌, cond, nat_le, Bool, true, false, refl, ap, sym, ◌∙◌, arith, inl, inr, subst, List, [], ◌∷◌, ◌++◌, Option, Some, None, length, get_or}
+use Rattle.std.proofs.Common.{◌≡◌, ℕ, ◌+◌, ◌-◌, ◌*◌, ◌<◌, ◌≤◌, ◌^◌, cond, nat_le, Bool, true, false, refl, ap, sym, ◌∙◌, arith, inl, inr, subst, List, [], ◌∷◌, ◌++◌, Option, Some, None, length, get_or}
 use Rattle.std.specs.Prelude.{All, filter}
 use Rattle.std.proofs.lemmas.Bool.Decides.{leb_tells}
 use Rattle.std.proofs.lemmas.List.{get_or_append_left, get_or_at, length_push, get_or_default}
 use Rattle.std.proofs.lemmas.List.Elements.{All-push, All-weaker}
 use Rattle.std.proofs.lemmas.List.FromFn.{length-range_with_len}
 use Rattle.pareto_front.specs.declared.point.Point.{Point}
-use Rattle.pareto_front.specs.Front.{IsFront, cheapest}
+use Rattle.pareto_front.specs.Front.{IsFront, NeedsWithin, CostsWithin, cheapest, plus, shifted}
 use Rattle.pareto_front.proofs.Points.{cheapest-need}
 use Rattle.duct_definitions.specs.declared.design.Pair.{Pair}
 use Rattle.duct_definitions.specs.declared.limits.TheConstants.{MAX_SECTIONS}
@@ -15,18 +15,15 @@ use Rattle.duct_definitions.specs.Network.{Network, IsNetwork, IsBounded, size_c
 use Rattle.least_laws.specs.Least.{IsLeast}
 use Rattle.duct_definitions.proofs.TreeLaws.{few_sections}
 use Rattle.duct_units.specs.Prices.{lesser, both_of}
+use Rattle.duct_units.proofs.PriceLaws.{lesser-none}
 use Rattle.least_laws.specs.Prices.{least_below, sum_of, with_pair}
 use Rattle.least_laws.specs.LeastFromChildren.{least_in, least_with, IsExact}
 use Rattle.least_laws.proofs.Bounds.{least_bounded}
 use Rattle.least_laws.proofs.Leasts.{least_in-is, least_in-step}
 use Rattle.least_laws.proofs.SumOf.{least_below-next}
-use Rattle.contract_join.specs.SectionFronts.{NeedsWithin, CostsWithin, front_of, most_beyond, AreExact}
+use Rattle.contract_join.specs.SectionFronts.{front_of, most_beyond, AreExact}
 use Rattle.contract_join.specs.Join.{AreSums}
-use Rattle.contract_join.specs.declared.scratch.Scratch.{Scratch}
-use Rattle.contract_join.specs.declared.scratch.Scratch.TheVariants.{Points, Prices}
-use Rattle.contract_join.specs.Scratch.{laid, least_among, least_in_scratch, IsClear}
-use Rattle.contract_join.proofs.Lessers.{lesser-none}
-use Rattle.contract_join.proofs.Fronts.{All-front_of, front_of-get_or, times-most_beyond, cap-le}
+use Rattle.contract_join.proofs.Fronts.{All-front_of, front_of-get_or, times-most_beyond}
 
 -- the rest matters only within what the loss leaves of the budget
 with_pair-same : (pair : Pair) (budget : ℕ) (one other : ℕ → Option ℕ)
@@ -34,13 +31,15 @@ with_pair-same : (pair : Pair) (budget : ℕ) (one other : ℕ → Option ℕ)
 with_pair-same pair budget one other same =
     ap (λ o. cond (nat_le pair.loss budget) (both_of (Some pair.price) o) None) (same (budget - pair.loss) (omega arith))
 
-least_below-clear : (h : ℕ → Option ℕ) → ((k : ℕ) → h k ≡ None) → (n : ℕ) → least_below h n ≡ None
-least_below-clear h none zero = refl
-least_below-clear h none (suc n) = ap (λ o. lesser o (h n)) (least_below-clear h none n) ∙ none n
+plus-both : (price : ℕ) (cost : Option ℕ) → plus price cost ≡ both_of (Some price) cost
+plus-both price None = refl
+plus-both price (Some c) = ap Some (let same : c + price ≡ price + c = omega arith in same)
 
-pub clear-least : (scratch : Scratch) → IsClear scratch → (budget : ℕ) → least_in_scratch scratch budget ≡ None
-clear-least (Points points) clear budget = ap (λ l. least_among l budget) clear
-clear-least (Prices prices) absent budget = least_below-clear (laid prices.items) absent (budget + 1)
+-- what a front costs with a pair's loss and price more
+shifted-with_pair : (pair : Pair) (front : List Point) (budget : ℕ)
+    → shifted front pair.loss pair.price budget ≡ with_pair (Some pair) budget (cheapest front)
+shifted-with_pair pair front budget =
+    ap (λ o. cond (nat_le pair.loss budget) o None) (plus-both pair.price (cheapest front (budget - pair.loss)))
 
 pub length-filter-le : (test : ℕ → Bool) (xs : List ℕ) → length (filter test xs) ≤ length xs
 length-filter-le test [] = omega arith
@@ -63,28 +62,22 @@ module _ (net : Network) (valid : IsNetwork net) (s : ℕ) (sums : List (List Po
     within : k < length sums
     within = let count = are_sums.count in omega arith
 
-    pub sum_needs : (pair : Pair) → IsBounded (Some pair) → All (λ point. point.need + pair.loss < 2 ^ 64) (front_of sums k)
-    sum_needs pair bounded =
-        let most = cap-le net valid in
-        let loss = bounded.0 in
-        All-weaker (λ point. point.need ≤ cap net) (λ point. point.need + pair.loss < 2 ^ 64) (λ point low. omega arith)
-        (front_of sums k) (All-front_of (NeedsWithin (cap net)) sums k are_sums.needs within)
-
-    pub sum_costs : (pair : Pair) → IsBounded (Some pair) → All (λ point. point.cost + pair.price < 2 ^ 64) (front_of sums k)
+    pub sum_costs : (pair : Pair) → IsBounded (Some pair) → All (λ point. point.cost + pair.price + 1 < 2 ^ 64) (front_of sums k)
     sum_costs pair bounded =
         let most = times-most_beyond net valid.tree (length (children net.tree s)) (children-few net.tree s valid.tree) in
         let price = bounded.1 in
-        All-weaker (λ point. point.cost ≤ length (children net.tree s) * most_beyond net) (λ point. point.cost + pair.price < 2 ^ 64)
+        All-weaker (λ point. point.cost ≤ length (children net.tree s) * most_beyond net) (λ point. point.cost + pair.price + 1 < 2 ^ 64)
         (λ point low. omega arith)
         (front_of sums k) (All-front_of (CostsWithin (length (children net.tree s) * most_beyond net)) sums k are_sums.costs within)
 
     -- one more size that can be joined
     pub least-next : (g budget : ℕ) (pair : Pair) → pair_at net s k g ≡ Some pair → budget ≤ cap net
-        → lesser (least_below (least_with net (least_in net) s g budget) k) (with_pair (Some pair) budget (cheapest (front_of sums k)))
+        → lesser (least_below (least_with net (least_in net) s g budget) k) (shifted (front_of sums k) pair.loss pair.price budget)
         ≡ least_below (least_with net (least_in net) s g budget) (k + 1)
     least-next g budget pair is in_cap =
         ap (lesser (least_below (least_with net (least_in net) s g budget) k))
-        (with_pair-same pair budget (cheapest (front_of sums k)) (λ rest. sum_of (λ c. least_in net c k rest) (children net.tree s))
+        (shifted-with_pair pair (front_of sums k) budget
+        ∙ with_pair-same pair budget (cheapest (front_of sums k)) (λ rest. sum_of (λ c. least_in net c k rest) (children net.tree s))
         (λ rest low. are_sums.value k rest less (omega arith))
         ∙ ap (λ o. with_pair o budget (λ rest. sum_of (λ c. least_in net c k rest) (children net.tree s))) (sym is))
         ∙ sym (least_below-next (least_with net (least_in net) s g budget) k)

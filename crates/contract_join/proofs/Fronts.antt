@@ -8,13 +8,13 @@ use Rattle.std.proofs.lemmas.List.Elements.{All-head, All-tail, All-map, All-wea
 use Rattle.std.proofs.lemmas.Option.{unwrap_or-slice_get}
 use Rattle.std.proofs.Math.Nat.{mul-le-mul_right}
 use Rattle.pareto_front.specs.declared.point.Point.{Point}
-use Rattle.pareto_front.specs.Front.{cheapest}
+use Rattle.pareto_front.specs.Front.{CostsWithin, cheapest}
 use Rattle.pareto_front.proofs.Falls.{cheapest-All}
 use Rattle.duct_definitions.specs.declared.limits.TheConstants.{MAX_SECTIONS, MAX_PRICE, MAX_PRESSURE}
 use Rattle.duct_definitions.specs.Tree.{IsTree}
 use Rattle.duct_definitions.specs.Network.{Network, IsNetwork, IsFan, cap}
 use Rattle.duct_definitions.proofs.TreeLaws.{few_sections}
-use Rattle.contract_join.specs.SectionFronts.{front_of, CostsWithin, most_beyond}
+use Rattle.contract_join.specs.SectionFronts.{front_of, most_beyond}
 
 pub front_of-get_or : (fronts : List (List Point)) (g : ℕ) → front_of fronts g ≡ get_or fronts g []
 front_of-get_or fronts g = unwrap_or-slice_get fronts g []

@@ -6,7 +6,7 @@ use Rattle.std.proofs.lemmas.Option.{slice_get_within, slice_get-get_or, get_or_
 use Rattle.duct_definitions.specs.Tree.{section_count}
 use Rattle.duct_definitions.specs.Network.{Network}
 use Rattle.contract_join.specs.SectionFronts.{SectionData, AreFrontsOf}
-use Rattle.contract_join.specs.Contract.{AreFrontsFrom}
+use Rattle.contract_join.specs.Condensing.{AreFrontsFrom}
 
 pub AreFrontsFrom-none : (net : Network) → AreFrontsFrom net (section_count net.tree) []
 AreFrontsFrom-none net = record {

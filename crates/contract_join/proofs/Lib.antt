@@ -1,14 +1,6 @@
-pub mod Lessers
-pub mod Laid
-pub mod LaidFronts
-pub mod Among
-pub mod Sweeping
-pub mod InOrder
-pub mod Scanning
-pub mod Runs
-pub mod Fronts
-pub mod Closing
 pub mod Adding
 pub mod Children
+pub mod Closing
+pub mod Fronts
 pub mod InTurn
 pub mod Sides

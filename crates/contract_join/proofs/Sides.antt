@@ -6,7 +6,7 @@ use Rattle.std.proofs.lemmas.List.{take_all, length-take}
 use Rattle.std.proofs.lemmas.List.Elements.{All-weaker}
 use Rattle.std.proofs.lemmas.List.FromFn.{length-range_with_len}
 use Rattle.pareto_front.specs.declared.point.Point.{Point}
-use Rattle.pareto_front.specs.Front.{cheapest}
+use Rattle.pareto_front.specs.Front.{NeedsWithin, CostsWithin, cheapest}
 use Rattle.duct_units.specs.declared.side.Side.{Side}
 use Rattle.duct_definitions.specs.declared.limits.TheConstants.{MAX_SECTIONS}
 use Rattle.duct_definitions.specs.Tree.{Tree, IsTree, section_count, sections, neighbour, side, is_root, roots}
@@ -16,11 +16,10 @@ use Rattle.least_laws.specs.Least.{IsLeast}
 use Rattle.duct_definitions.proofs.SectionLists.{chosen_pass}
 use Rattle.duct_definitions.proofs.TreeLaws.{few_sections}
 use Rattle.least_laws.proofs.Leasts.{least_in-unique}
-use Rattle.contract_join.specs.declared.front_sum.Run.{Run}
-use Rattle.contract_join.specs.FrontSum.{AreSmall, KeepsSum, run_of, in_one}
-use Rattle.contract_join.specs.Join.{AreRunsOf}
-use Rattle.contract_join.proofs.Adding.{AddsSection-front, AreSmall-room, AreSmall-within, AreRunsOf-next, IsTotal, IsTotal-of}
-use Rattle.contract_join.specs.SectionFronts.{SectionData, AreFrontsOf, NeedsWithin, CostsWithin, most_beyond}
+use Rattle.pareto_front.specs.FrontSum.{greatest_together, IsTotal, CostsAlike}
+use Rattle.contract_join.specs.Join.{AreSumOf}
+use Rattle.contract_join.proofs.Adding.{AddsSection-front, fits-room, AreSumOf-next, IsSumOf, IsSumOf-total}
+use Rattle.contract_join.specs.SectionFronts.{SectionData, AreFrontsOf, most_beyond}
 use Rattle.std.proofs.lemmas.Option.{slice_get_read, slice_get-get_or}
 use Rattle.contract_join.proofs.Closing.{length-filter-le}
 use Rattle.contract_join.proofs.Fronts.{times-most_beyond}
@@ -79,43 +78,40 @@ root-found net x i entries entry t items tree_is items_is each inside are is =
     }
 
 -- the first i roots, with room for one more
-module _ (net : Network) (valid : IsNetwork net) (x : Side) (i : ℕ) (runs : List Run) (are : AreRunsOf net 0 (take i (roots net.tree x)) runs) where
-  pub roots_small : AreSmall runs
-  roots_small =
+module _ (net : Network) (valid : IsNetwork net) (x : Side) (i : ℕ) (fronts : List (List Point)) (are : AreSumOf net 0 (take i (roots net.tree x)) fronts) where
+  pub roots_fit : greatest_together fronts < 2 ^ 64
+  roots_fit =
       let few = roots-few net.tree x valid.tree in
-      let so_many = are.count in
-      let long = length-take i (roots net.tree x) in
-      AreSmall-within net valid runs (omega arith) are.costs
+      let most = times-most_beyond net valid.tree (length (take i (roots net.tree x)))
+      (let long = length-take i (roots net.tree x) in omega arith) in
+      let costs = are.costs in
+      omega arith
 
   pub root_room : i < length (roots net.tree x) → (front : List Point) → CostsWithin (most_beyond net) front
-      → AreSmall (runs ++ run_of front ∷ [])
-  root_room within front costs =
+      → greatest_together (fronts ++ front ∷ []) < 2 ^ 64
+  root_room within front low =
       let few = roots-few net.tree x valid.tree in
-      let so_many = are.count in
-      let long = length-take i (roots net.tree x) in
-      AreSmall-room net valid runs front (record {
-        few = omega arith;
-        costs = are.costs;
-      }) costs
+      let most = times-most_beyond net valid.tree (length (take i (roots net.tree x)) + 1)
+      (let long = length-take i (roots net.tree x) in omega arith) in
+      let costs = are.costs in
+      fits-room net fronts front low (omega arith)
 
-  pub root_added : (entry : SectionData) → IsRootAt net x i entry → (front : List Point) (new : List Run)
-      → KeepsSum (runs ++ run_of front ∷ []) new
+  pub root_added : (entry : SectionData) → IsRootAt net x i entry → (front : List Point) (new : List (List Point))
+      → CostsAlike (fronts ++ front ∷ []) new
       → ((budget : ℕ) → budget ≤ cap net → IsLeast net entry.section 0 budget (cheapest front budget))
       → NeedsWithin (cap net) front → CostsWithin (most_beyond net) front
-      → AreRunsOf net 0 (take (i + 1) (roots net.tree x)) new
-  root_added entry root front new keeps least needs costs =
-      let beside = root.beside in
+      → AreSumOf net 0 (take (i + 1) (roots net.tree x)) new
+  root_added entry root front new alike least needs costs =
       let one : columns net entry.section ≡ 1 = ap (λ (n : Network). columns n entry.section) (sym root.same_net) ∙ root.beside in
-      AreRunsOf-next net 0 (roots net.tree x) i entry.section runs new
+      AreSumOf-next net 0 (roots net.tree x) i entry.section fronts new
       (slice_get-get_or (roots net.tree x) i 0 root.within ∙ ap Some (sym root.place)) are
-      (AddsSection-front net valid runs 0 entry.section front new keeps
+      (AddsSection-front net fronts front costs 0 entry.section new alike
       (λ budget in_cap.
       least_in-unique net valid.tree entry.section 0 budget (cheapest front budget) root.in_range (omega arith) (least budget in_cap))
-      needs costs)
+      needs)
 
   -- the front of all roots
-  pub side-total : length (roots net.tree x) ≤ i → (front : List Point) → KeepsSum runs (in_one runs front ∷ [])
-      → IsTotal net 0 (roots net.tree x) front
-  side-total end front keeps =
-      subst (λ l. IsTotal net 0 l front) (take_all i (roots net.tree x) end)
-      (IsTotal-of net 0 (take i (roots net.tree x)) runs front are keeps)
+  pub side-total : length (roots net.tree x) ≤ i → (front : List Point) → IsTotal fronts front → IsSumOf net 0 (roots net.tree x) front
+  side-total end front total =
+      subst (λ l. IsSumOf net 0 l front) (take_all i (roots net.tree x) end)
+      (IsSumOf-total net 0 (take i (roots net.tree x)) fronts front are total)

@@ -1,5 +1,3 @@
 pub mod SectionFronts
-pub mod FrontSum
 pub mod Join
-pub mod Contract
-pub mod Scratch
+pub mod Condensing

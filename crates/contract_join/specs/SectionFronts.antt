@@ -1,13 +1,11 @@
 -- The fronts of a section, one beside each size of its neighbour, and what makes them exact.
 --   front_of fronts g         the front beside size g of the neighbour
---   NeedsWithin most front    no need of the front is above this, dPa
---   CostsWithin most front    no cost of the front is above this, cents
 --   most_beyond net           what a section and all beyond it cost at most, cents
 --   AreExact net s fronts     each front is the least price of section s within each budget up to the cap
 --   AreFrontsOf net fronts    one entry for each section of the network, in order
-use Rattle.std.specs.Prelude.{◌≡◌, ℕ, ◌*◌, ◌<◌, ◌≤◌, List, [], length, slice_get, Some, unwrap_or, All}
+use Rattle.std.specs.Prelude.{◌≡◌, ℕ, ◌*◌, ◌<◌, List, [], length, slice_get, Some, unwrap_or, All}
 use Rattle.pareto_front.specs.declared.point.Point.{Point}
-use Rattle.pareto_front.specs.Front.{IsFront, cheapest}
+use Rattle.pareto_front.specs.Front.{IsFront, NeedsWithin, CostsWithin, cheapest}
 use Rattle.duct_definitions.specs.declared.limits.TheConstants.{MAX_PRICE}
 use Rattle.duct_definitions.specs.Tree.{section_count}
 use Rattle.duct_definitions.specs.Network.{Network, columns, cap}
@@ -22,14 +20,6 @@ pub record SectionData : Type 0 where
 -- the front beside size g of the neighbour
 abbrev pub front_of : List (List Point) → ℕ → List Point
 front_of fronts g = unwrap_or (slice_get fronts g) []
-
--- no need is above this
-abbrev pub NeedsWithin : ℕ → List Point → Type 0
-NeedsWithin most front = All (λ point. point.need ≤ most) front
-
--- no cost is above this
-abbrev pub CostsWithin : ℕ → List Point → Type 0
-CostsWithin most front = All (λ point. point.cost ≤ most) front
 
 -- the greatest price for each section of the network
 abbrev pub most_beyond : Network → ℕ

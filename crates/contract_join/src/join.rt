@@ -1,16 +1,15 @@
 //! The children of a section, added one by one.
-ghost use Rattle.std.specs.Prelude.{◌≡◌, ◌<◌, IfOk, All, length};
+ghost use Rattle.std.specs.Prelude.{◌≡◌, ◌<◌, ◌^◌, IfOk, All, length};
 ghost use Rattle.duct_definitions.specs.Tree.{section_count};
 ghost use Rattle.duct_definitions.specs.Network.{IsNetwork, columns};
-ghost use Rattle.contract_join.specs.FrontSum.{AreSmall};
+ghost use Rattle.pareto_front.specs.FrontSum.{greatest_together};
 ghost use Rattle.contract_join.specs.Join.{IsAdding, AddsChild, HaveRoom, AreTotals};
 
 use crate::close::fronts_beside;
-use crate::front_sum::FrontSum;
-use crate::section_fronts::SectionFronts;
+use crate::section_fronts::{SectionFronts, tell_valid};
 use duct_units::{List, NoMemory};
 use net_model::Network;
-use pareto_front::Front;
+use pareto_front::{Front, FrontSum};
 use std::alloc::Global;
 use std::marker::Model;
 
@@ -21,7 +20,7 @@ pub struct Join<'n> {
     net: &'n Network,
     section: u32,
     added: u32,
-    /// The sum for each size of the section; None after want of memory.
+    /// The sum for each size of the section; None once memory ran out.
     sums: Option<Vec<FrontSum>>,
 }
 
@@ -55,7 +54,7 @@ impl<'n> Join<'n> {
         })
     }
 
-    /// Adds the next child in rising number. After want of memory the join can only be dropped.
+    /// Adds the next child in rising number. When memory runs out the join can only be dropped.
     pub fn add(&mut self, alloc: Global, child: &SectionFronts<'n>) -> Result<(), NoMemory>
         requires network { child.now.net ≡ self.old.net }
         requires next { slice_get (children self.old.net.tree self.old.section) self.old.added
@@ -97,7 +96,7 @@ fn no_children(alloc: Global, net: &Network, s: u32) -> Result<Vec<FrontSum>, No
     requires { s < section_count net.now.tree }
     ensures { IfOk result (λ sums. IsAdding net.now s 0 sums.items) }
 {
-    let _ = net.tree();
+    tell_valid(net);
     let count = net.size_count(s);
     let mut sums = Vec::with_capacity(alloc, count as usize)?;
     for _ in 0..count {
@@ -126,7 +125,7 @@ fn with_child(
 
 /// The front of each sum.
 fn totals(alloc: Global, sums: Vec<FrontSum>) -> Result<List<Front>, NoMemory>
-    requires { All (λ sum. AreSmall sum.runs.items) sums.items }
+    requires { All (λ sum. greatest_together sum < 2 ^ 64) sums.items }
     ensures { IfOk result (AreTotals sums.items) }
 {
     let mut fronts = Vec::with_capacity(alloc, sums.len())?;

@@ -5,17 +5,12 @@
 #![tactic(auto)]
 
 mod close;
-mod contract;
-mod few_points;
-mod front_sum;
+mod condense;
 mod join;
-mod many_points;
-mod scratch;
 mod section_fronts;
 mod side;
-mod sweep;
 
-pub use contract::contract_in_turn;
+pub use condense::condense_in_turn;
 pub use join::Join;
 pub use section_fronts::SectionFronts;
 pub use side::side_of;

@@ -1,9 +1,9 @@
 //! The fronts of one section, which borrow their network.
 ghost use Rattle.std.specs.Prelude.{◌≡◌, ℕ, ◌<◌, ◌≤◌, ◌^◌, IfSome};
-ghost use Rattle.duct_definitions.specs.Network.{columns, cap};
+ghost use Rattle.duct_definitions.specs.Network.{IsNetwork, columns, cap};
 ghost use Rattle.least_laws.specs.Least.{IsLeast};
-ghost use Rattle.pareto_front.specs.Front.{cheapest};
-ghost use Rattle.contract_join.specs.SectionFronts.{AreExact, NeedsWithin, CostsWithin, front_of, most_beyond};
+ghost use Rattle.pareto_front.specs.Front.{NeedsWithin, CostsWithin, cheapest};
+ghost use Rattle.contract_join.specs.SectionFronts.{AreExact, front_of, most_beyond};
 
 use duct_units::List;
 use net_model::Network;
@@ -49,6 +49,14 @@ impl<'n> SectionFronts<'n> {
         self.net
     }
 
+    /// The fronts beside the sizes of the neighbour, in order.
+    pub(crate) fn fronts(&self) -> &[Front]
+        ensures value { result.now ≡ self.now.fronts }
+        ensures exact { AreExact self.now.net self.now.section self.now.fronts }
+    {
+        self.fronts.as_slice()
+    }
+
     /// The section, from 0 in file order.
     pub fn section(&self) -> u32
         ensures { result ≡ self.now.section }
@@ -66,7 +74,7 @@ impl<'n> SectionFronts<'n> {
         ensures bounds { IfSome result (λ cost. cost ≤ most_beyond self.now.net) }
         ensures below { IfSome result (λ cost. cost < 10 ^ 18) }
     {
-        let _ = self.net.tree();
+        tell_valid(self.net);
         self.front(g).cheapest(budget)
     }
 
@@ -81,4 +89,11 @@ impl<'n> SectionFronts<'n> {
     {
         &self.fronts.as_slice()[g as usize]
     }
+}
+
+/// Tells a proof that the network is valid.
+pub(crate) fn tell_valid(net: &Network)
+    ensures { IsNetwork net.now }
+{
+    let _ = net.tree();
 }

@@ -3,14 +3,13 @@ ghost use Rattle.std.specs.Prelude.{◌≡◌, ℕ, ◌*◌, ◌<◌, ◌≤◌,
 ghost use Rattle.duct_definitions.specs.Tree.{roots};
 ghost use Rattle.duct_definitions.specs.Network.{cap};
 ghost use Rattle.least_laws.specs.Choosing.{side_least};
-ghost use Rattle.pareto_front.specs.Front.{cheapest};
-ghost use Rattle.contract_join.specs.SectionFronts.{AreFrontsOf, NeedsWithin, CostsWithin, most_beyond};
+ghost use Rattle.pareto_front.specs.Front.{NeedsWithin, CostsWithin, cheapest};
+ghost use Rattle.contract_join.specs.SectionFronts.{AreFrontsOf, most_beyond};
 
-use crate::front_sum::FrontSum;
 use crate::section_fronts::SectionFronts;
 use duct_units::{NoMemory, Side};
 use net_model::Network;
-use pareto_front::Front;
+use pareto_front::{Front, FrontSum};
 use std::alloc::Global;
 
 /// What each budget buys at the least cost for a side of the fan, from the fronts of all sections. A side without

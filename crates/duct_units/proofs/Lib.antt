@@ -4,3 +4,4 @@ pub mod RuleLaws
 pub mod Spelling
 pub mod WholeLaws
 pub mod CeilingLaws
+pub mod PriceLaws

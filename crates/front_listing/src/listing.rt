@@ -1,6 +1,6 @@
 //! The fronts of a network, line by line.
 
-use contract_join::{SectionFronts, contract_in_turn, side_of};
+use contract_join::{SectionFronts, condense_in_turn, side_of};
 use duct_units::{List, NoMemory, Side};
 use net_model::Network;
 use pareto_front::Point;
@@ -10,7 +10,7 @@ use text_lines::Text;
 /// A line for each section beside each size of its neighbour, and one for each side.
 pub fn listing_of(alloc: Global, net: &Network) -> Result<List<u8>, NoMemory> {
     let mut text = Text::new(alloc);
-    let fronts = contract_in_turn(alloc, net)?;
+    let fronts = condense_in_turn(alloc, net)?;
     for section in fronts.as_slice() {
         add_section(alloc, &mut text, section)?;
     }

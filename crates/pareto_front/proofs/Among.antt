@@ -7,7 +7,7 @@ use Rattle.std.proofs.lemmas.List.Elements.{All-weaker, All-contains, Contains-a
 use Rattle.std.proofs.lemmas.Option.{none-some}
 use Rattle.pareto_front.specs.declared.point.Point.{Point}
 use Rattle.duct_units.specs.Prices.{lesser}
-use Rattle.pareto_front.specs.Front.{IsFront, NoDearer, cheapest, price_of}
+use Rattle.pareto_front.specs.Front.{IsFront, CostsNoMore, cheapest, price_of}
 use Rattle.pareto_front.proofs.Costs.{lesser-left, lesser-right}
 use Rattle.pareto_front.proofs.Even.{lesser-Some}
 use Rattle.pareto_front.proofs.Falls.{option_or-Some, price_of-Some}
@@ -46,9 +46,9 @@ priced_there ps p front priced =
     ] in
     subst (Contains ps) (same_point q.point p need cost) q.there
 
--- a cost that is below every lesser one is below what the lesser one is no dearer than
-below_dearer : (o p : Option ℕ) (least : ℕ) → NoDearer o p → ForSome o (λ x. least < x) → ForSome p (λ x. least < x)
-below_dearer o p least low above cost is = go o (low cost is) above where
+-- a cost that is below every lesser one is below what the lesser one is no more expensive than
+below_costlier : (o p : Option ℕ) (least : ℕ) → CostsNoMore o p → ForSome o (λ x. least < x) → ForSome p (λ x. least < x)
+below_costlier o p least low above cost is = go o (low cost is) above where
   go : (o : Option ℕ) → IsSomeAnd o (λ d. d ≤ cost) → ForSome o (λ x. least < x) → least < cost
   go None there above = absurd there
   go (Some d) there above = let over = above d refl in omega arith
@@ -58,15 +58,15 @@ pub lesser_among : (a b front : List Point) → IsFront a → IsFront b → IsFr
     → ((budget : ℕ) → cheapest front budget ≡ lesser (cheapest a budget) (cheapest b budget)) → All (Contains (a ++ b)) front
 lesser_among a b front a_front b_front is_front prices =
     All-weaker (IsPriced front) (Contains (a ++ b)) each front (front_priced front is_front) where
-      before : (p : Point) → IsPriced front p → (ps : List Point) → ((budget : ℕ) → NoDearer (cheapest front budget) (cheapest ps budget))
+      before : (p : Point) → IsPriced front p → (ps : List Point) → ((budget : ℕ) → CostsNoMore (cheapest front budget) (cheapest ps budget))
           → (budget : ℕ) → budget < p.need → ForSome (cheapest ps budget) (λ x. p.cost < x)
-      before p priced ps low budget below = below_dearer (cheapest front budget) (cheapest ps budget) p.cost (low budget) (priced.before budget below)
+      before p priced ps low budget below = below_costlier (cheapest front budget) (cheapest ps budget) p.cost (low budget) (priced.before budget below)
 
-      low_a : (budget : ℕ) → NoDearer (cheapest front budget) (cheapest a budget)
-      low_a budget = subst (λ o. NoDearer o (cheapest a budget)) (sym (prices budget)) (lesser-left (cheapest a budget) (cheapest b budget))
+      low_a : (budget : ℕ) → CostsNoMore (cheapest front budget) (cheapest a budget)
+      low_a budget = subst (λ o. CostsNoMore o (cheapest a budget)) (sym (prices budget)) (lesser-left (cheapest a budget) (cheapest b budget))
 
-      low_b : (budget : ℕ) → NoDearer (cheapest front budget) (cheapest b budget)
-      low_b budget = subst (λ o. NoDearer o (cheapest b budget)) (sym (prices budget)) (lesser-right (cheapest a budget) (cheapest b budget))
+      low_b : (budget : ℕ) → CostsNoMore (cheapest front budget) (cheapest b budget)
+      low_b budget = subst (λ o. CostsNoMore o (cheapest b budget)) (sym (prices budget)) (lesser-right (cheapest a budget) (cheapest b budget))
 
       each : (p : Point) → IsPriced front p → Contains (a ++ b) p
       each p priced = elim (lesser-Some (cheapest a p.need) (cheapest b p.need) p.cost (sym (prices p.need) ∙ priced.at_need)).one [

@@ -7,15 +7,11 @@ use Rattle.std.proofs.lemmas.List.Elements.{All-weaker}
 use Rattle.std.proofs.lemmas.Option.{none-some}
 use Rattle.pareto_front.specs.declared.point.Point.{Point}
 use Rattle.duct_units.specs.Prices.{both_of}
-use Rattle.pareto_front.specs.Front.{IsFront, cheapest, plus, shifted}
+use Rattle.pareto_front.specs.Front.{IsFront, NeedsWithin, CostsWithin, cheapest, plus, shifted}
 use Rattle.pareto_front.proofs.Falls.{cheapest-All}
-use Rattle.pareto_front.proofs.Needs.{NeedsWithin, within_later}
+use Rattle.pareto_front.proofs.Needs.{within_later}
 use Rattle.pareto_front.proofs.Points.{IsPriced, front_priced, cheapest-need}
 use Rattle.pareto_front.proofs.Prices.{cheapest-past}
-
--- no point costs more than this
-abbrev pub CostsWithin : ℕ → List Point → Type 0
-CostsWithin most points = All (λ point. point.cost ≤ most) points
 
 price_within : (ps : List Point) (budget most : ℕ) → CostsWithin most ps → ForSome (cheapest ps budget) (λ cost. cost ≤ most)
 price_within ps budget most within = cheapest-All (λ cost. cost ≤ most) ps budget within

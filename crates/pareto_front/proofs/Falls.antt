@@ -7,7 +7,7 @@ use Rattle.std.proofs.lemmas.List.Elements.{All-head, All-tail}
 use Rattle.std.proofs.lemmas.Bool.Decides.{nat_tests}
 use Rattle.std.proofs.lemmas.Bool.{cases_lt, false≢true}
 use Rattle.pareto_front.specs.declared.point.Point.{Point}
-use Rattle.pareto_front.specs.Front.{IsFront, IsBelowFirst, NoDearer, cheapest, price_of}
+use Rattle.pareto_front.specs.Front.{IsFront, IsBelowFirst, CostsNoMore, cheapest, price_of}
 use Rattle.pareto_front.specs.Sweep.{next_need, IsReadTo}
 use Rattle.pareto_front.proofs.Costs.{Cheaper}
 use Rattle.pareto_front.proofs.Needs.{within_from_below}
@@ -68,8 +68,8 @@ module _ (ps : List Point) (need i b : ℕ) (front : IsFront ps) (read : IsReadT
   rest_less x y is late =
       cheapest-parts (take i ps) (drop i ps) need x y (subst IsFront (sym (take-append-drop i ps)) front) (sym at_need ∙ is) late
 
-  -- the front is no dearer
-  pub cheapest-read : NoDearer (cheapest ps need) (cheapest (take i ps) b)
+  -- the front is no more expensive
+  pub cheapest-read : CostsNoMore (cheapest ps need) (cheapest (take i ps) b)
   cheapest-read x is = subst (λ o. IsSomeAnd o (λ y. y ≤ x)) (sym (whole x is)) (go (cheapest (drop i ps) need) refl) where
     go : (o : Option ℕ) → cheapest (drop i ps) need ≡ o → IsSomeAnd (option_or o (Some x)) (λ y. y ≤ x)
     go None none = omega arith

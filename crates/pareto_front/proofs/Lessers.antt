@@ -4,7 +4,7 @@ use Rattle.std.specs.Option.{ForSome}
 use Rattle.pareto_front.specs.declared.point.Point.{Point}
 use Rattle.pareto_front.specs.declared.sweep.Step.{Step}
 use Rattle.duct_units.specs.Prices.{lesser}
-use Rattle.pareto_front.specs.Front.{NoDearer, cheapest}
+use Rattle.pareto_front.specs.Front.{CostsNoMore, cheapest}
 use Rattle.pareto_front.specs.Sweep.{Progress, Steps, cost_of, last_cost, lesser_offer}
 use Rattle.pareto_front.proofs.Costs.{lesser_falls, same_cost}
 use Rattle.pareto_front.proofs.Needs.{within_from_below}
@@ -16,10 +16,10 @@ module _ {a b : List Point} {old new : Progress} {made : List Point} {next : Ste
   last_is : (budget : ℕ) → next.need ≤ budget → cheapest made budget ≡ last_cost made
   last_is budget over = cheapest-last made budget (within_from_below next.need budget made (omega arith) (made_below swept on))
 
-  -- the lesser that is offered is no dearer than the last point
-  offer_falls : (budget : ℕ) → next.need ≤ budget → NoDearer (lesser_offer next) (last_cost made)
+  -- the lesser that is offered is no more expensive than the last point
+  offer_falls : (budget : ℕ) → next.need ≤ budget → CostsNoMore (lesser_offer next) (last_cost made)
   offer_falls budget over =
-      subst (NoDearer (lesser_offer next)) (sym (swept.prices budget) ∙ last_is budget over)
+      subst (CostsNoMore (lesser_offer next)) (sym (swept.prices budget) ∙ last_is budget over)
       (lesser_falls (cost_of next.left) (cost_of next.right) (cheapest (left_part old) budget) (cheapest (right_part old) budget)
       (left_falls swept on budget over) (right_falls swept on budget over))
 
@@ -28,7 +28,7 @@ module _ {a b : List Point} {old new : Progress} {made : List Point} {next : Ste
   Swept-lesser point here is less =
       Swept-push swept on point here is (λ cost was. less cost (sym (last_is next.need (omega arith)) ∙ was))
 
-  -- where the last point is no dearer than the offer, the two cost the same
-  pub Swept-no_lesser : NoDearer (last_cost made) (lesser_offer next) → Swept lesser a b new made
+  -- where the last point is no more expensive than the offer, the two cost the same
+  pub Swept-no_lesser : CostsNoMore (last_cost made) (lesser_offer next) → Swept lesser a b new made
   Swept-no_lesser covers =
       Swept-skip swept on (λ budget over. last_is budget over ∙ same_cost (last_cost made) (lesser_offer next) covers (offer_falls budget over))

@@ -3,11 +3,8 @@ use Rattle.std.proofs.Common.{ℕ, ◌+◌, ◌<◌, ◌≤◌, List, arith}
 use Rattle.std.specs.Prelude.{All}
 use Rattle.std.proofs.lemmas.List.Elements.{All-weaker}
 use Rattle.pareto_front.specs.declared.point.Point.{Point}
+use Rattle.pareto_front.specs.Front.{NeedsWithin}
 use Rattle.pareto_front.specs.Sweep.{NeedsBelow, NeedsFrom}
-
--- every need is within the budget
-abbrev pub NeedsWithin : ℕ → List Point → Type 0
-NeedsWithin budget points = All (λ point. point.need ≤ budget) points
 
 -- every need is above the budget
 abbrev pub NeedsAbove : ℕ → List Point → Type 0

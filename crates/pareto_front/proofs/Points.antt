@@ -5,7 +5,7 @@ use Rattle.std.specs.Option.{ForSome, option_or}
 use Rattle.std.proofs.lemmas.List.Elements.{All-nil, All-cons, All-weaker}
 use Rattle.std.proofs.lemmas.Option.{none-some}
 use Rattle.pareto_front.specs.declared.point.Point.{Point}
-use Rattle.pareto_front.specs.Front.{IsFront, NoDearer, cheapest, price_of}
+use Rattle.pareto_front.specs.Front.{IsFront, CostsNoMore, cheapest, price_of}
 use Rattle.pareto_front.proofs.Falls.{cheapest-All, option_or-Some, price_of-Some}
 use Rattle.pareto_front.proofs.Order.{later_above, later_less}
 use Rattle.pareto_front.proofs.Prices.{price_of-within, price_of-above, cheapest-above}
@@ -45,7 +45,7 @@ pub cheapest-need : (ps : List Point) → IsFront ps → All (λ p. cheapest ps 
 cheapest-need ps front = All-weaker (IsPriced ps) (λ p. cheapest ps p.need ≡ Some p.cost) (λ p priced. priced.at_need) ps (front_priced ps front)
 
 -- a price never rises with the budget
-pub cheapest-rise : (ps : List Point) (b c : ℕ) → IsFront ps → b ≤ c → NoDearer (cheapest ps c) (cheapest ps b)
+pub cheapest-rise : (ps : List Point) (b c : ℕ) → IsFront ps → b ≤ c → CostsNoMore (cheapest ps c) (cheapest ps b)
 cheapest-rise [] b c front more x is = absurd (none-some x is)
 cheapest-rise (p ∷ ps) b c front more x is = elim (option_or-Some (cheapest ps b) (price_of p b) x is) [
   | inl later ↦ from_later (cheapest ps c) (cheapest-rise ps b c front.1 more x later)

@@ -6,9 +6,9 @@ use Rattle.std.proofs.lemmas.List.{take-append-drop}
 use Rattle.std.proofs.lemmas.List.Elements.{All-head, All-tail}
 use Rattle.std.proofs.lemmas.Bool.Decides.{nat_tests}
 use Rattle.pareto_front.specs.declared.point.Point.{Point}
-use Rattle.pareto_front.specs.Front.{cheapest, price_of}
+use Rattle.pareto_front.specs.Front.{cheapest, price_of, NeedsWithin}
 use Rattle.pareto_front.specs.Sweep.{cost_of, last_cost}
-use Rattle.pareto_front.proofs.Needs.{NeedsAbove, NeedsWithin}
+use Rattle.pareto_front.proofs.Needs.{NeedsAbove}
 
 pub price_of-within : (p : Point) (b : ℕ) → p.need ≤ b → price_of p b ≡ Some p.cost
 price_of-within p b within = grind (arith, nat_tests)

@@ -5,9 +5,9 @@ use Rattle.std.proofs.lemmas.Bool.{cases_lt}
 use Rattle.std.proofs.lemmas.List.Elements.{All-nil, All-cons, All-head, All-tail}
 use Rattle.std.proofs.lemmas.Option.{same_Some, none-some}
 use Rattle.pareto_front.specs.declared.point.Point.{Point}
-use Rattle.pareto_front.specs.Front.{IsFront, cheapest, price_of}
+use Rattle.pareto_front.specs.Front.{IsFront, cheapest, price_of, NeedsWithin}
 use Rattle.pareto_front.proofs.Falls.{cheapest-All, price_of-Some}
-use Rattle.pareto_front.proofs.Needs.{NeedsWithin, within_later}
+use Rattle.pareto_front.proofs.Needs.{within_later}
 use Rattle.pareto_front.proofs.Order.{IsFront-above, later_less}
 use Rattle.pareto_front.proofs.Points.{cheapest-need}
 use Rattle.pareto_front.proofs.Prices.{cheapest-above, cheapest-first}

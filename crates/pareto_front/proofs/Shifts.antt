@@ -1,12 +1,11 @@
 -- A front whose points all need a loss more and cost a price more.
-use Rattle.std.proofs.Common.{◌≡◌, ℕ, ◌+◌, ◌-◌, ◌<◌, ◌≤◌, List, [], ◌∷◌, map, Option, Some, None, refl, ap, sym, ◌∙◌, arith, inl, inr, nat_le, Bool}
-use Rattle.std.specs.Prelude.{if◌then◌else◌}
+use Rattle.std.proofs.Common.{◌≡◌, ℕ, ◌+◌, ◌-◌, ◌<◌, ◌≤◌, List, [], ◌∷◌, ◌++◌, map, take, Option, Some, None, refl, ap, sym, ◌∙◌, arith, inl, inr, nat_le, Bool}
+use Rattle.std.specs.Prelude.{if◌then◌else◌, All}
 use Rattle.std.specs.Option.{option_or, option_map}
 use Rattle.std.proofs.lemmas.Bool.Decides.{leb_tells}
-use Rattle.std.proofs.lemmas.List.Elements.{All-map, All-weaker}
+use Rattle.std.proofs.lemmas.List.Elements.{All-map, All-weaker, All-append, All-take}
 use Rattle.pareto_front.specs.declared.point.Point.{Point}
-use Rattle.pareto_front.specs.Front.{IsBefore, IsFront, cheapest, moved_by, plus, shifted, price_of}
-use Rattle.pareto_front.proofs.Needs.{NeedsWithin}
+use Rattle.pareto_front.specs.Front.{IsBefore, IsFront, cheapest, moved_by, plus, shifted, price_of, NeedsWithin}
 use Rattle.pareto_front.proofs.Prices.{price_of-within, price_of-above}
 
 option_map-or : (f : ℕ → ℕ) (x y : Option ℕ) → option_map f (option_or x y) ≡ option_or (option_map f x) (option_map f y)
@@ -68,3 +67,10 @@ module _ (loss price : ℕ) where
   moved_within part cap room enough is within =
       All-map (λ p. p.need ≤ cap) (moved_by loss price) part
       (All-weaker (λ p. p.need ≤ room) (λ p. p.need + loss ≤ cap) (λ p h. omega arith) part within)
+
+  -- some of the points moved, after others that are within the cap
+  pub moved_after : (cap i : ℕ) (before points : List Point) → NeedsWithin cap before → All (λ p. p.need + loss ≤ cap) points
+      → NeedsWithin cap (before ++ map (moved_by loss price) (take i points))
+  moved_after cap i before points low within =
+      All-append (λ p. p.need ≤ cap) before (map (moved_by loss price) (take i points)) low
+      (All-map (λ p. p.need ≤ cap) (moved_by loss price) (take i points) (All-take (λ p. p.need + loss ≤ cap) i points within))

@@ -7,7 +7,7 @@ use Rattle.std.proofs.lemmas.List.{take_all}
 use Rattle.std.proofs.lemmas.List.Elements.{All-nil, All-push}
 use Rattle.pareto_front.specs.declared.point.Point.{Point}
 use Rattle.pareto_front.specs.declared.sweep.Step.{Step}
-use Rattle.pareto_front.specs.Front.{IsFront, NoDearer, cheapest}
+use Rattle.pareto_front.specs.Front.{IsFront, CostsNoMore, cheapest}
 use Rattle.pareto_front.specs.Sweep.{IsReached, IsReadTo, NeedsBelow, Progress, Steps, cost_of, points_left}
 use Rattle.pareto_front.proofs.Costs.{Cheaper}
 use Rattle.pareto_front.proofs.Even.{next_need-from}
@@ -107,15 +107,15 @@ module _ {join : Option ℕ → Option ℕ → Option ℕ} {a b : List Point} {o
       Swept-on made (record { below = λ budget under. refl; from = stays }) swept.front
       (below_later next.need (next.need + 1) made (omega arith) made_below)
 
-  -- what a front offers is no dearer than what is read of it
-  pub left_falls : (budget : ℕ) → next.need ≤ budget → NoDearer (cost_of next.left) (cheapest (left_part old) budget)
+  -- what a front offers is no more expensive than what is read of it
+  pub left_falls : (budget : ℕ) → next.need ≤ budget → CostsNoMore (cost_of next.left) (cheapest (left_part old) budget)
   left_falls budget over =
-      subst (λ o. NoDearer o (cheapest (left_part old) budget)) (sym on.left_price)
+      subst (λ o. CostsNoMore o (cheapest (left_part old) budget)) (sym on.left_price)
       (cheapest-read old.left next.need old.left_read budget on.left_front on.left_before over)
 
-  pub right_falls : (budget : ℕ) → next.need ≤ budget → NoDearer (cost_of next.right) (cheapest (right_part old) budget)
+  pub right_falls : (budget : ℕ) → next.need ≤ budget → CostsNoMore (cost_of next.right) (cheapest (right_part old) budget)
   right_falls budget over =
-      subst (λ o. NoDearer o (cheapest (right_part old) budget)) (sym on.right_price)
+      subst (λ o. CostsNoMore o (cheapest (right_part old) budget)) (sym on.right_price)
       (cheapest-read old.right next.need old.right_read budget on.right_front on.right_before over)
 
   -- and one of them is cheaper

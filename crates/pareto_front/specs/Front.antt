@@ -4,9 +4,11 @@
 --   IsBelowFirst budget front         the budget is below the first need, or the front is empty
 --   moved_by loss price point         the point that needs the loss more and costs the price more
 --   shifted front loss price budget   the cheapest at the budget less the loss, plus the price, or none
---   NoDearer new old                  the new cost is at most the old one, or there is no old one
+--   CostsNoMore new old               the new cost is at most the old one, or there is no old one
+--   NeedsWithin most front            no need of the front is above this
+--   CostsWithin most front            no cost of the front is above this
 use Rattle.std.specs.Prelude.{ℕ, ◌+◌, ◌-◌, ◌<◌, ◌≤◌, List, [], ◌∷◌, Option, Some, None}
-use Rattle.std.specs.Prelude.{nat_le, if◌then◌else◌, IsSomeAnd, ⊤}
+use Rattle.std.specs.Prelude.{nat_le, if◌then◌else◌, IsSomeAnd, All, ⊤}
 use Rattle.std.specs.Option.{option_or, option_map, ForSome}
 use Rattle.pareto_front.specs.declared.point.Point.{Point}
 
@@ -48,5 +50,13 @@ shifted front loss price budget =
     if nat_le loss budget then plus price (cheapest front (budget - loss)) else None
 
 -- the new cost is at most the old one, if there is an old one
-abbrev pub NoDearer : Option ℕ → Option ℕ → Type 0
-NoDearer new old = ForSome old (λ was. IsSomeAnd new (λ is. is ≤ was))
+abbrev pub CostsNoMore : Option ℕ → Option ℕ → Type 0
+CostsNoMore new old = ForSome old (λ was. IsSomeAnd new (λ is. is ≤ was))
+
+-- no need is above this
+abbrev pub NeedsWithin : ℕ → List Point → Type 0
+NeedsWithin most front = All (λ point. point.need ≤ most) front
+
+-- no cost is above this
+abbrev pub CostsWithin : ℕ → List Point → Type 0
+CostsWithin most front = All (λ point. point.cost ≤ most) front

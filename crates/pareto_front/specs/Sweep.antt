@@ -1,4 +1,5 @@
 -- A sweep over the needs of two fronts, in rising order.
+--   cost_of offer              the cost of a point that is offered, if it is there
 --   next_need points i         the need of the point at i, if there is one
 --   last_cost points           the cost of the last point, if there is one
 --   NeedsBelow need points     every need is below this one
@@ -6,6 +7,7 @@
 --   IsReadTo need points i     the first i points need less than this, and the others don't
 --   Progress                   the points of both fronts, and how many of each are read
 --   points_left progress       how many points of both are left to read
+--   IsReached need progress    one of the fronts has its next point at this need
 --   IsEven progress            both are fronts, and both are read up to one need
 --   Steps old new step         the sweep goes to the next need of the two, with what both offer there
 --   lesser_offer, sum_offer    the lesser of the costs that a step offers, and their sum
@@ -17,6 +19,7 @@ use Rattle.pareto_front.specs.declared.sweep.Step.{Step}
 use Rattle.duct_units.specs.Prices.{lesser, both_of}
 use Rattle.pareto_front.specs.Front.{IsFront, cheapest}
 
+-- the points of both fronts, and how many of each are read
 pub record Progress : Type 0 where
   pub left : List Point
   pub right : List Point

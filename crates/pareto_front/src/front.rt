@@ -2,7 +2,7 @@
 ghost use Rattle.std.specs.Prelude.{◌≡◌, ℕ, ◌+◌, ◌<◌, ◌≤◌, ◌^◌, ◌↔◌, [], ◌∷◌, ◌++◌};
 ghost use Rattle.std.specs.Prelude.{All, Contains, IfOk, IsNone};
 ghost use Rattle.std.specs.Option.{ForSome};
-ghost use Rattle.pareto_front.specs.Front.{IsFront, IsBelowFirst};
+ghost use Rattle.pareto_front.specs.Front.{IsFront, IsBelowFirst, NeedsWithin, CostsWithin};
 ghost use Rattle.duct_units.specs.Prices.{lesser, both_of};
 ghost use Rattle.pareto_front.specs.Front.{cheapest, shifted};
 
@@ -60,6 +60,15 @@ impl Front {
         Front { points }
     }
 
+    /// The front of these points, in exactly their room.
+    pub(crate) fn copied(alloc: Global, points: &[Point]) -> Result<Front, NoMemory>
+        requires { IsFront points.now }
+        ensures { IfOk result (λ front. front ≡ points.now) }
+    {
+        let points = Vec::from_slice(alloc, points)?;
+        Ok(Front::from_points(List::from_vec(points)))
+    }
+
     /// The points in rising need and falling cost.
     pub fn points(&self) -> &[Point]
         ensures value { result.now ≡ self.now }
@@ -83,9 +92,9 @@ impl Front {
         requires fits { All (λ point. point.cost + price < 2 ^ 64) self.now }
         ensures value { IfOk result (λ front. (budget : ℕ) → budget ≤ cap →
             cheapest front budget ≡ shifted self.now loss price budget) }
-        ensures capped { IfOk result (λ front. All (λ point. point.need ≤ cap) front) }
-        ensures bounded { (most : ℕ) → All (λ point. point.cost ≤ most) self.now →
-            IfOk result (λ front. All (λ point. point.cost ≤ most + price) front) }
+        ensures capped { IfOk result (NeedsWithin cap) }
+        ensures bounded { (most : ℕ) → CostsWithin most self.now →
+            IfOk result (CostsWithin (most + price)) }
     {
         let Some(room) = cap.checked_sub(loss) else {
             return Ok(Front::empty(alloc));
@@ -119,12 +128,10 @@ impl Front {
             (both_of (cheapest a.now budget) (cheapest b.now budget)) (λ cost. cost < 2 ^ 64) }
         ensures value { IfOk result (λ front. (budget : ℕ) →
             cheapest front budget ≡ both_of (cheapest a.now budget) (cheapest b.now budget)) }
-        ensures needs { (most : ℕ) → All (λ point. point.need ≤ most) a.now →
-            All (λ point. point.need ≤ most) b.now →
-            IfOk result (λ front. All (λ point. point.need ≤ most) front) }
-        ensures bounded { (x y : ℕ) → All (λ point. point.cost ≤ x) a.now →
-            All (λ point. point.cost ≤ y) b.now →
-            IfOk result (λ front. All (λ point. point.cost ≤ x + y) front) }
+        ensures needs { (most : ℕ) → NeedsWithin most a.now → NeedsWithin most b.now →
+            IfOk result (NeedsWithin most) }
+        ensures bounded { (x y : ℕ) → CostsWithin x a.now → CostsWithin y b.now →
+            IfOk result (CostsWithin (x + y)) }
     {
         let points = both_points(alloc, a.points(), b.points())?;
         Ok(Front {

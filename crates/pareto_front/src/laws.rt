@@ -4,7 +4,7 @@
 ghost use Rattle.std.specs.Prelude.{◌≡◌, ℕ, ◌+◌, ◌<◌, ◌≤◌, ◌^◌, All, Some};
 ghost use Rattle.std.specs.Option.{ForSome};
 ghost use Rattle.duct_units.specs.Prices.{both_of};
-ghost use Rattle.pareto_front.specs.Front.{NoDearer, cheapest};
+ghost use Rattle.pareto_front.specs.Front.{IsFront, CostsNoMore, NeedsWithin, CostsWithin, cheapest};
 
 use crate::front::Front;
 
@@ -13,41 +13,48 @@ pub fn front_is_its_prices(a: &Front, b: &Front)
     requires { (budget : ℕ) → cheapest a.now budget ≡ cheapest b.now budget }
     ensures { a.now ≡ b.now }
 {
-    let _ = a.points();
-    let _ = b.points();
+    tell_front(a);
+    tell_front(b);
 }
 
 /// Two fronts without a need above `cap`, dPa, that have the same cheapest up to it, have the same points.
 pub fn capped_front_is_its_prices(a: &Front, b: &Front, cap: u64)
-    requires a_capped { All (λ point. point.need ≤ cap) a.now }
-    requires b_capped { All (λ point. point.need ≤ cap) b.now }
+    requires a_capped { NeedsWithin cap a.now }
+    requires b_capped { NeedsWithin cap b.now }
     requires same { (budget : ℕ) → budget ≤ cap → cheapest a.now budget ≡ cheapest b.now budget }
     ensures { a.now ≡ b.now }
 {
-    let _ = a.points();
-    let _ = b.points();
+    tell_front(a);
+    tell_front(b);
 }
 
 /// A greater budget costs no more.
 pub fn cheapest_never_rises(front: &Front)
     ensures { (less more : ℕ) → less ≤ more →
-        NoDearer (cheapest front.now more) (cheapest front.now less) }
+        CostsNoMore (cheapest front.now more) (cheapest front.now less) }
 {
-    let _ = front.points();
+    tell_front(front);
 }
 
 /// Each point is what its own need buys.
 pub fn points_are_prices(front: &Front)
     ensures { All (λ point. cheapest front.now point.need ≡ Some point.cost) front.now }
 {
-    let _ = front.points();
+    tell_front(front);
 }
 
 /// Two fronts whose costs are within bounds that add up within 64 bits may be added.
 pub fn sums_fit(a: &Front, b: &Front, x: u64, y: u64)
-    requires a_bounded { All (λ point. point.cost ≤ x) a.now }
-    requires b_bounded { All (λ point. point.cost ≤ y) b.now }
+    requires a_bounded { CostsWithin x a.now }
+    requires b_bounded { CostsWithin y b.now }
     requires bounds { x + y < 2 ^ 64 }
     ensures { (budget : ℕ) → ForSome
         (both_of (cheapest a.now budget) (cheapest b.now budget)) (λ cost. cost < 2 ^ 64) }
 {}
+
+/// Tells a proof that the points are a front.
+fn tell_front(front: &Front)
+    ensures { IsFront front.now }
+{
+    let _ = front.points();
+}

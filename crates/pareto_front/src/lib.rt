@@ -4,12 +4,18 @@
 //! and costs less than the one before it.
 #![tactic(auto)]
 
+mod few_points;
 mod front;
+mod front_sum;
+mod laid_points;
 pub mod laws;
+mod least_prices;
 mod merge;
 mod parts;
 mod point;
 mod sweep;
 
 pub use front::Front;
+pub use front_sum::FrontSum;
+pub use laid_points::LaidPoints;
 pub use point::Point;

@@ -1,11 +1,11 @@
 //! Two fronts in one, by one sweep over their needs.
-ghost use Rattle.std.specs.Prelude.{◌≡◌, ℕ, ◌<◌, ◌≤◌, ◌^◌, IfOk, IfSome, IfNone, Some};
+ghost use Rattle.std.specs.Prelude.{◌≡◌, ℕ, ◌<◌, ◌≤◌, ◌^◌, IfOk, IfSome};
 ghost use Rattle.std.specs.Option.{ForSome};
 ghost use Rattle.duct_units.specs.Prices.{lesser, both_of};
-ghost use Rattle.pareto_front.specs.Front.{IsFront, NoDearer, cheapest};
-ghost use Rattle.pareto_front.specs.Sweep.{cost_of, last_cost, lesser_offer, sum_offer};
+ghost use Rattle.pareto_front.specs.Front.{IsFront, cheapest};
+ghost use Rattle.pareto_front.specs.Sweep.{cost_of, lesser_offer, sum_offer};
 
-use crate::parts::last_cost;
+use crate::parts::cheaper_point;
 use crate::point::Point;
 use crate::sweep::{Step, Sweep};
 use duct_units::{NoMemory, lesser};
@@ -22,7 +22,7 @@ pub(crate) fn either_points(alloc: Global, a: &[Point], b: &[Point]) -> Result<V
     let mut points = Vec::with_capacity(alloc, a.len() + b.len())?;
     let mut sweep = Sweep::start(a, b);
     while let Some(step) = sweep.next() {
-        let Some(point) = cheaper_point(points.as_slice(), step) else {
+        let Some(point) = cheaper_point(points.as_slice(), step.need, lesser_cost(step)) else {
             continue;
         };
         points.push(point)?;
@@ -49,24 +49,6 @@ pub(crate) fn both_points(alloc: Global, a: &[Point], b: &[Point]) -> Result<Vec
         points.push(point)?;
     }
     Ok(points)
-}
-
-/// What the cheaper front offers at the step, where that is below the last cost so far.
-fn cheaper_point(points: &[Point], step: Step) -> Option<Point>
-    ensures need { IfSome result (λ point. point.need ≡ step.need) }
-    ensures cost { IfSome result (λ point. lesser_offer step ≡ Some point.cost) }
-    ensures less { IfSome result
-        (λ point. ForSome (last_cost points.now) (λ last. point.cost < last)) }
-    ensures none { IfNone result (NoDearer (last_cost points.now) (lesser_offer step)) }
-{
-    let cost = lesser_cost(step)?;
-    match last_cost(points) {
-        Some(last) if last <= cost => None,
-        _ => Some(Point {
-            need: step.need,
-            cost,
-        }),
-    }
 }
 
 /// What the cheaper front costs at the step, cents.

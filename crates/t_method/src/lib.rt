@@ -12,7 +12,7 @@ ghost use Rattle.duct_definitions.specs.Order.{IsBest, NoneMeets};
 ghost use Rattle.contract_join.specs.SectionFronts.{AreFrontsOf};
 ghost use Rattle.expand_sizes.specs.BestChoice.{IsBestChoice};
 
-use contract_join::{SectionFronts, contract_in_turn, side_of};
+use contract_join::{SectionFronts, condense_in_turn, side_of};
 use duct_units::{NoMemory, Side};
 use expand_sizes::expand;
 use expand_sizes::laws::{choice_of_side_fronts_is_best, nothing_priced_is_no_design};
@@ -25,7 +25,7 @@ pub fn best_design(alloc: Global, net: &Network) -> Result<Option<Design>, NoMem
     ensures some { IfOk result (λ best. IfSome best (IsBest net.now)) }
     ensures none { IfOk result (λ best. IfNone best (NoneMeets net.now)) }
 {
-    let fronts = contract_in_turn(alloc, net)?;
+    let fronts = condense_in_turn(alloc, net)?;
     match best_choice(alloc, net, fronts.as_slice())? {
         Some(choice) => Ok(Some(expand(alloc, net, fronts.as_slice(), &choice)?)),
         None => Ok(None),

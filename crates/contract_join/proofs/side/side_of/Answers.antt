@@ -1,17 +1,16 @@
-use Rattle.std.proofs.Common.{◌≡◌, ℕ, ◌*◌, ◌<◌, ◌≤◌, ◌^◌, arith, ap, sym, ◌∙◌, subst, List, [], ◌∷◌, length}
+use Rattle.std.proofs.Common.{◌≡◌, ℕ, ◌*◌, ◌<◌, ◌≤◌, ◌^◌, arith, ap, sym, ◌∙◌, subst, List, length}
 use Rattle.std.specs.Prelude.{All, IfOk}
 use Rattle.std.proofs.lemmas.Result.{IfOk-weaker}
 use Rattle.pareto_front.specs.declared.point.Point.{Point}
-use Rattle.pareto_front.specs.Front.{cheapest}
+use Rattle.pareto_front.specs.Front.{NeedsWithin, CostsWithin, cheapest}
 use Rattle.duct_definitions.specs.Tree.{Tree, roots}
 use Rattle.duct_definitions.specs.Network.{Network, cap}
 use Rattle.least_laws.specs.Least.{IsLeast}
 use Rattle.least_laws.specs.Choosing.{side_least}
-use Rattle.contract_join.specs.declared.front_sum.Run.{Run}
-use Rattle.contract_join.specs.FrontSum.{KeepsSum, in_one}
-use Rattle.contract_join.specs.SectionFronts.{NeedsWithin, CostsWithin, most_beyond}
-use Rattle.contract_join.proofs.Adding.{IsTotal}
-use Rattle.contract_join.proofs.Sides.{IsRootAt, root-found, root_room, root_added, roots_small, side-total, side-below}
+use Rattle.pareto_front.specs.FrontSum.{IsTotal}
+use Rattle.contract_join.specs.SectionFronts.{most_beyond}
+use Rattle.contract_join.proofs.Adding.{IsSumOf}
+use Rattle.contract_join.proofs.Sides.{IsRootAt, root-found, root_room, root_added, roots_fit, side-total, side-below}
 use Rattle.contract_join.proofs.side.side_of.Goals as goal
 
 root_at : (c : goal.After-index-fronts-root) → IsRootAt c.args.net.now c.args.side c.loop-root.root-index c.index-fronts-root.result
@@ -28,7 +27,7 @@ add-requires c =
     let root = root-found c.args.net.now c.args.side c.loop-root.root-index c.args.fronts.now c.index-fronts-root.result c.tree.result.now
     c.roots-root-items.result.now c.tree.ensures.tree c.roots-root-items.ensures.value c.roots-root-items.ensures.sections
     c.loop-root-test.true c.requires c.index-fronts-root.is in
-    root_room c.args.net.now c.tree.ensures.network c.args.side c.loop-root.root-index c.loop-root.sum.runs.items c.loop-root.invariant root.within
+    root_room c.args.net.now c.tree.ensures.network c.args.side c.loop-root.root-index c.loop-root.sum c.loop-root.invariant root.within
     c.front.result.now (subst (λ (n : Network). CostsWithin (most_beyond n) c.front.result.now) root.same_net c.front.ensures.costs)
 
 pub loop-root-preserved : goal.loop-root-preserved
@@ -39,8 +38,8 @@ loop-root-preserved c =
     let root = root-found c.args.net.now c.args.side c.loop-root.root-index c.args.fronts.now c.index-fronts-root.result c.tree.result.now
     c.roots-root-items.result.now c.tree.ensures.tree c.roots-root-items.ensures.value c.roots-root-items.ensures.sections
     c.loop-root-test.true c.requires c.index-fronts-root.is in
-    root_added net c.tree.ensures.network c.args.side c.loop-root.root-index c.loop-root.sum.runs.items c.loop-root.invariant
-    c.index-fronts-root.result root front c.add.new.self.runs.items c.in_ok-add.ensures
+    root_added net c.tree.ensures.network c.args.side c.loop-root.root-index c.loop-root.sum c.loop-root.invariant
+    c.index-fronts-root.result root front c.add.new.self c.in_ok-add.ensures
     (λ budget in_cap.
     subst (λ (n : Network). IsLeast n section 0 budget (cheapest front budget)) root.same_net
     (c.front.ensures.least budget (subst (λ (n : Network). budget ≤ cap n) (sym root.same_net) in_cap)))
@@ -49,7 +48,7 @@ loop-root-preserved c =
 
 pub total-requires : goal.total-requires
 total-requires c =
-    roots_small c.args.net.now c.tree.ensures.network c.args.side c.loop-root.root-index c.loop-root.sum.runs.items c.loop-root.invariant
+    roots_fit c.args.net.now c.tree.ensures.network c.args.side c.loop-root.root-index c.loop-root.sum c.loop-root.invariant
 
 all_roots : (c : goal.After-total) → length (roots c.args.net.now.tree c.args.side) ≤ c.loop-root.root-index
 all_roots c =
@@ -57,28 +56,26 @@ all_roots c =
     c.roots-root-items.ensures.value ∙ ap (λ (t : Tree). roots t c.args.side) c.tree.ensures.tree in
     subst (λ (l : List ℕ). length l ≤ c.loop-root.root-index) same c.loop-root-test.false
 
-total_is : (c : goal.After-total) → IfOk c.total.result (IsTotal c.args.net.now 0 (roots c.args.net.now.tree c.args.side))
+total_is : (c : goal.After-total) → IfOk c.total.result (IsSumOf c.args.net.now 0 (roots c.args.net.now.tree c.args.side))
 total_is c =
-    let runs : List Run = c.loop-root.sum.runs.items in
-    IfOk-weaker c.total.result (λ front. KeepsSum runs (in_one runs front ∷ []))
-    (IsTotal c.args.net.now 0 (roots c.args.net.now.tree c.args.side))
-    (side-total c.args.net.now c.tree.ensures.network c.args.side c.loop-root.root-index runs c.loop-root.invariant (all_roots c))
+    IfOk-weaker c.total.result (IsTotal c.loop-root.sum) (IsSumOf c.args.net.now 0 (roots c.args.net.now.tree c.args.side))
+    (side-total c.args.net.now c.tree.ensures.network c.args.side c.loop-root.root-index c.loop-root.sum c.loop-root.invariant (all_roots c))
     c.total.ensures
 
 pub returns-clause-value : goal.returns-clause-value
 returns-clause-value c =
-    IfOk-weaker c.total.result (IsTotal c.args.net.now 0 (roots c.args.net.now.tree c.args.side))
+    IfOk-weaker c.total.result (IsSumOf c.args.net.now 0 (roots c.args.net.now.tree c.args.side))
     (λ front. (budget : ℕ) → budget ≤ cap c.args.net.now → cheapest front budget ≡ side_least c.args.net.now c.args.side budget)
     (λ front is. is.value) (total_is c)
 
 pub returns-clause-needs : goal.returns-clause-needs
 returns-clause-needs c =
-    IfOk-weaker c.total.result (IsTotal c.args.net.now 0 (roots c.args.net.now.tree c.args.side)) (NeedsWithin (cap c.args.net.now))
+    IfOk-weaker c.total.result (IsSumOf c.args.net.now 0 (roots c.args.net.now.tree c.args.side)) (NeedsWithin (cap c.args.net.now))
     (λ front is. is.needs) (total_is c)
 
 pub returns-clause-costs : goal.returns-clause-costs
 returns-clause-costs c =
-    IfOk-weaker c.total.result (IsTotal c.args.net.now 0 (roots c.args.net.now.tree c.args.side))
+    IfOk-weaker c.total.result (IsSumOf c.args.net.now 0 (roots c.args.net.now.tree c.args.side))
     (CostsWithin (length (roots c.args.net.now.tree c.args.side) * most_beyond c.args.net.now))
     (λ front is. is.costs) (total_is c)
 

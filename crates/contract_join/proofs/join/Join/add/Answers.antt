@@ -1,10 +1,10 @@
-use Rattle.std.proofs.Common.{◌≡◌, ℕ, ◌+◌, arith, ap, sym, ◌∙◌, subst, Some, Option, Vec, Global}
+use Rattle.std.proofs.Common.{◌≡◌, ℕ, ◌+◌, arith, ap, sym, ◌∙◌, subst, Some, List, Option, Vec, Global}
 use Rattle.std.specs.Prelude.{slice_get}
 use Rattle.std.specs.Option.{ForSome}
 use Rattle.std.proofs.lemmas.Option.{slice_get_within}
 use Rattle.duct_definitions.specs.Tree.{children}
 use Rattle.duct_definitions.specs.Network.{Network, columns}
-use Rattle.contract_join.specs.declared.front_sum.FrontSum.{FrontSum}
+use Rattle.pareto_front.specs.declared.point.Point.{Point}
 use Rattle.contract_join.specs.declared.join.Join.TheInside.{Inside}
 use Rattle.contract_join.specs.Join.{Joining, IsAdding, AddsChild, HaveRoom}
 use Rattle.contract_join.proofs.Adding.{child-columns}
@@ -16,7 +16,7 @@ abbrev joining : Inside → Joining
 joining own = record { net = own.net.now; section = own.section; added = own.added }
 
 -- the sums that are there, and the child that is the next one, of the fields that the value was opened to
-sums_there : (own : Inside) (sums : Vec FrontSum Global) (o : Option (Vec FrontSum Global))
+sums_there : (own : Inside) (sums : Vec (List (List Point)) Global) (o : Option (Vec (List (List Point)) Global))
     → ForSome own.sums (λ x. IsAdding own.net.now own.section own.added x.items) → o ≡ own.sums → o ≡ Some sums
     → IsAdding own.net.now own.section own.added sums.items
 sums_there own sums o each was is = each sums (sym was ∙ is)
@@ -61,9 +61,9 @@ pub invariant_of-self-2 : goal.invariant_of-self-2
 invariant_of-self-2 c sums is =
     let own : Inside = c.self.inside in
     let child = c.args.child.now in
-    let new : Vec FrontSum Global = c.in_ok-sums.sums in
+    let new : Vec (List (List Point)) Global = c.in_ok-sums.sums in
     let same : c.in_ok-sums.sums ≡ sums = cc in
-    subst (λ (v : Vec FrontSum Global). IsAdding own.net.now own.section (own.added + 1) v.items) same
+    subst (λ (v : Vec (List (List Point)) Global). IsAdding own.net.now own.section (own.added + 1) v.items) same
     (IsAdding-next own.net.now own.section own.added child.section c.in-Some.sums.items new.items
     (sums_there own c.in-Some.sums c.take.result c.self.invariant c.take.ensures.value c.in-Some.is)
     (is_next own c.args.self.now child.section c.self.view_is c.requires.next)

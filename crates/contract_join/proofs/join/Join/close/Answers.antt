@@ -2,13 +2,13 @@ use Rattle.std.proofs.Common.{◌≡◌, sym, subst, List, length}
 use Rattle.pareto_front.specs.declared.point.Point.{Point}
 use Rattle.duct_definitions.specs.Tree.{children}
 use Rattle.contract_join.specs.Join.{Joining, AreSums}
-use Rattle.contract_join.proofs.Children.{all_small, AreSums-totals}
+use Rattle.contract_join.proofs.Children.{all_fit, AreSums-totals}
 use Rattle.contract_join.proofs.join.Join.close.Goals as goal
 
 pub totals-requires : goal.totals-requires
 totals-requires c =
     let own = c.self.inside in
-    all_small own.net.now own.section own.added c.in-Some.sums.items (c.self.invariant c.in-Some.sums c.in-Some.is)
+    all_fit own.net.now own.section own.added c.in-Some.sums.items (c.self.invariant c.in-Some.sums c.in-Some.is)
 
 pub fronts_beside-requires : goal.fronts_beside-requires
 fronts_beside-requires c =
