@@ -7,6 +7,7 @@ use Rattle.file_definitions.specs.Rows.{rows_of, TakesRow}
 use Rattle.csv_fields.specs.RowsLeft.{RowsLeft, IsNextRow, opened}
 use Rattle.csv_fields.proofs.ReadingLaws.{IsReadTo, opened-read, read_row, read_all}
 use Rattle.size_catalogue.specs.Catalogue.{Catalogue}
+use Rattle.size_catalogue.specs.declared.limits.TheConstants.{MAX_LISTS, MAX_LIST_SIZES}
 use Rattle.std.proofs.lemmas.List.{length-replicate}
 use Rattle.std.proofs.lemmas.List.Elements.{All-replicate}
 use Rattle.friction_table.specs.declared.row.FlowRate.{FlowRate}
@@ -20,10 +21,10 @@ pub record MadeFriction (sizes : Catalogue) (bytes : List ℕ) (rows : RowsLeft)
   pub count : rows.number ≡ sum_by length made + 1
   pub few : All (λ rs. length rs ≤ MAX_ROWS) made
   pub tables : length made ≡ length sizes.sizes
-  pub most : length sizes.sizes ≤ 384
+  pub most : length sizes.sizes ≤ MAX_LISTS * MAX_LIST_SIZES
 
 pub starts : (sizes : Catalogue) (bytes : List ℕ) (rows : RowsLeft) (tables : List (List FlowRate)) (n : ℕ) → opened header (rows_of bytes) ≡ Ok rows
-    → tables ≡ replicate n [] → n ≡ length sizes.sizes → n ≤ 384 → MadeFriction sizes bytes rows tables
+    → tables ≡ replicate n [] → n ≡ length sizes.sizes → n ≤ MAX_LISTS * MAX_LIST_SIZES → MadeFriction sizes bytes rows tables
 starts sizes bytes rows tables n opens none all most =
     let is : replicate (length sizes.sizes) [] ≡ tables = ap (λ k. replicate k []) (sym all) ∙ sym none in
     let (read, first) = opened-read (friction_form sizes) (rows_of bytes) rows opens in
@@ -46,8 +47,8 @@ goes_on sizes bytes old new tables more made next takes adds = record {
 }
 
 -- rows are few enough to be counted
-pub number_most : (sizes : Catalogue) (bytes : List ℕ) (rows : RowsLeft) (tables : List (List FlowRate)) → MadeFriction sizes bytes rows tables → rows.number ≤ MAX_ROWS * 384 + 1
-number_most sizes bytes rows tables made = omega (arith, made.count, few_rows tables 384 made.few (omega (arith, made.tables, made.most)))
+pub number_most : (sizes : Catalogue) (bytes : List ℕ) (rows : RowsLeft) (tables : List (List FlowRate)) → MadeFriction sizes bytes rows tables → rows.number ≤ MAX_ROWS * (MAX_LISTS * MAX_LIST_SIZES) + 1
+number_most sizes bytes rows tables made = omega (arith, made.count, few_rows tables (MAX_LISTS * MAX_LIST_SIZES) made.few (omega (arith, made.tables, made.most)))
 
 -- behind the last row the tables are the file's, unless one is empty
 pub ends : (sizes : Catalogue) (bytes : List ℕ) (rows : RowsLeft) (tables : List (List FlowRate)) (broken : Option Fault) → MadeFriction sizes bytes rows tables → rows.left ≡ []

@@ -1,8 +1,8 @@
 -- The number of sizes of a neighbour, among the sections that were read before.
-use Rattle.std.proofs.Common.{◌≡◌, ℕ, suc, zero, ◌<◌, List, [], ◌∷◌, length, take, map, Option, Some, None, option_map, IfSome, refl, ap, ◌∙◌, arith}
+use Rattle.std.proofs.Common.{◌≡◌, ℕ, suc, zero, ◌<◌, List, [], ◌∷◌, length, take, map, Option, Some, None, option_map, IfSome, refl, ap, ◌∙◌, arith, subst}
 use Rattle.std.specs.Prelude.{slice_get, unwrap_or}
 use Rattle.std.proofs.lemmas.Option.{slice_get-map}
-use Rattle.duct_definitions.specs.Tree.{neighbour}
+use Rattle.duct_definitions.specs.Tree.{Tree, neighbour}
 use Rattle.network_file.specs.SectionTables.{SectionEntry}
 use Rattle.network_file.specs.Neighbours.{neighbour_of, tree_of}
 use Rattle.network_file.specs.Pairs.{section_size_count, neighbour_size_count, size_and_pair_rules}
@@ -28,12 +28,17 @@ before_or_none : (sections : List SectionEntry) (s : ℕ) (o : Option ℕ) → I
 before_or_none sections s None earlier = refl
 before_or_none sections s (Some n) earlier = ap (λ k. Some k) (given_before sections s n earlier)
 
--- so the number of sizes that was found is the one of the neighbour
-pub found_size_count : (sections : List SectionEntry) (s : ℕ) (section : SectionEntry) (sizes : List (List (List ℕ))) (found : Option ℕ) → slice_get sections s ≡ Some section → sizes ≡ sizes_in (take s sections)
-    → IfSome (neighbour (tree_of sections) s) (λ n. n < s) → found ≡ option_map (λ n. length (unwrap_or (slice_get sizes n) [])) (neighbour (tree_of sections) s) → found ≡ neighbour_size_count sections section
-found_size_count sections s section sizes found at read earlier is =
-    is ∙ ap (λ ss. option_map (λ n. length (unwrap_or (slice_get ss n) [])) (neighbour (tree_of sections) s)) read
-    ∙ before_or_none sections s (neighbour (tree_of sections) s) earlier ∙ ap (option_map (section_size_count sections)) (neighbour_in_tree sections s section at)
+-- how many sizes the neighbour of section s has, by the sizes that were read
+abbrev pub counted_in : List (List (List ℕ)) → ℕ → Tree → Option ℕ
+counted_in sizes s tree = option_map (λ n. length (unwrap_or (slice_get sizes n) [])) (neighbour tree s)
+
+-- it is the number of the neighbour's sizes, where those of all sections before were read
+pub found_size_count : (sections : List SectionEntry) (s : ℕ) (section : SectionEntry) (read seen : List (List (List ℕ))) (tree : Tree) (found : Option ℕ) → slice_get sections s ≡ Some section
+    → read ≡ sizes_in (take s sections) → seen ≡ read → tree ≡ tree_of sections → IfSome (neighbour tree s) (λ n. n < s) → found ≡ counted_in seen s tree → found ≡ neighbour_size_count sections section
+found_size_count sections s section read seen tree found at is_read same is_tree earlier is =
+    is ∙ ap (λ ss. counted_in ss s tree) (same ∙ is_read) ∙ ap (counted_in (sizes_in (take s sections)) s) is_tree
+    ∙ before_or_none sections s (neighbour (tree_of sections) s) (subst (λ (t : Tree). IfSome (neighbour t s) (λ n. n < s)) is_tree earlier)
+    ∙ ap (option_map (section_size_count sections)) (neighbour_in_tree sections s section at)
 
 -- the rules of a section's sizes and pairs, by the place of the section
 abbrev pub size_and_pair_rules_at : List SectionEntry → ℕ → SectionEntry → List Rule

@@ -3,7 +3,7 @@ ghost use Rattle.std.specs.Prelude.{◌≡◌, length};
 
 use crate::texts::file;
 use duct_units::Name;
-use friction_table::{Friction, MAX_FLOW, MAX_LENGTH, read_friction};
+use friction_table::{FlowRate, Friction, MAX_FLOW, MAX_LENGTH, MIN_FLOW, read_friction};
 use size_catalogue::{Sizes, read_sizes};
 use std::alloc::Global;
 use std::test::Fail;
@@ -21,8 +21,8 @@ const WORDS: [(&str, &str); 2] = [
 ];
 
 /// A case a line: the answer, what is asked, and the bytes of a file for the sizes R1 and R2. Asked is the loss, in
-/// dPa, of a size at an airflow over a length; where nothing is asked, whether the file is read. A line without bars
-/// says what the cases below it show.
+/// dPa, of a size at an airflow over a length, or how many rates a size has and the last of them; where nothing is
+/// asked, whether the file is read. A line without bars says what the cases below it show.
 const CASES: &str = r#"
 The first row is the header.
 refused at Row 1: Header||
@@ -114,6 +114,11 @@ rounded up to 134 would give 40.2.
 none|R2 401 0|\T
 none|R2 200000 1000000|\T
 
+A size has its own rates, in file order.
+2 to 300 800|R1 rates|\T
+2 to 400 200|R2 rates|\T
+1 to 1 0|R1 rates|\HR1,1,0\nR2,1,0\n
+
 Below its first row a size has its first rate, and above its last row none.
 none|R1 300 20000|\HR1,100,300\nR1,200,500\nR2,400,200\nR2,800,600\n
 40|R2 300 20000|\HR1,100,300\nR1,200,500\nR2,400,200\nR2,800,600\n
@@ -157,13 +162,24 @@ fn told(alloc: Global, sizes: &Sizes, friction: &Friction, asked: &str) -> Resul
     };
     let name = Name::new(name.as_bytes()).ok_or("no name")?;
     let size = sizes.named(&name).ok_or("no size")?;
+    if stretch == "rates" {
+        return listed(alloc, friction.rates(size));
+    }
     let (flow, length) = stretch.split_once(' ').ok_or("no length")?;
     let (flow, length) = (flow.parse::<u64>()?, length.parse::<u64>()?);
-    if flow < 1 || MAX_FLOW < flow || MAX_LENGTH < length {
+    if flow < MIN_FLOW || MAX_FLOW < flow || MAX_LENGTH < length {
         return Err(Fail::from("out of bounds"));
     }
     match friction.loss(size, flow, length) {
         Some(loss) => Ok(format!(in alloc; "{loss}")?),
         None => Ok(String::from_str(alloc, "none")?),
+    }
+}
+
+/// How many rates there are, and the last of them.
+fn listed(alloc: Global, rates: &[FlowRate]) -> Result<String, Fail> {
+    match rates.last() {
+        Some(last) => Ok(format!(in alloc; "{} to {} {}", rates.len(), last.flow, last.rate)?),
+        None => Ok(String::from_str(alloc, "no rates")?),
     }
 }

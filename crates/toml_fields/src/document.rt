@@ -13,6 +13,7 @@ pub enum DocumentError {
     /// The bytes are not a TOML document in UTF-8.
     #[error("not a TOML document")]
     Text,
+    /// Memory ran out.
     #[error("out of memory")]
     NoMemory,
 }

@@ -1,9 +1,8 @@
-use Rattle.std.proofs.Common.{◌≡◌, ◌∙◌, sym, ap, rules, map, ◌<◌, ◌≤◌, length, arith, subst, not, ◌+◌, IfSome, None, option_map, []}
-use Rattle.std.specs.Prelude.{unwrap_or, slice_get, Some}
+use Rattle.std.proofs.Common.{◌≡◌, ◌∙◌, sym, ap, rules, map, ◌<◌, ◌≤◌, length, arith, subst, not, ◌+◌, None}
+use Rattle.std.specs.Prelude.{Some}
 use Rattle.network_file.specs.declared.sizes_and_pairs.SizesAndPairs.{SizesAndPairs}
 use Rattle.duct_units.specs.Rules.{first_broken}
 use Rattle.duct_definitions.specs.declared.limits.TheConstants.{MAX_SIZES}
-use Rattle.duct_definitions.specs.Tree.{neighbour, Tree}
 use Rattle.network_file.specs.SectionTables.{SectionEntry}
 use Rattle.network_file.specs.Pairs.{all_size_and_pair_rules, all_sizes_and_pairs, size_and_pair_rules, sizes_and_pairs, pair_cells, pairs_of_section}
 use Rattle.network_file.specs.TableEntries.{section_entry}
@@ -20,11 +19,8 @@ returns-in_err-own c =
     let error = c.in_err-own.field-0.0 in
     let within : c.loop-i.i < length sections = omega arith in
     let at = view_at section_entry sections c.loop-i.i c.index-sections-i.result within ∙ ap (λ table. Some (section_entry table)) (sym c.index-sections-i.is) in
-    let counted = found_size_count entries c.loop-i.i section c.loop-i.sizes.items c.neighbour_size_count-count.result at c.loop-i.invariant.sizes
-    (subst (λ (tree : Tree). IfSome (neighbour tree c.loop-i.i) (λ n. n < c.loop-i.i)) c.requires.tree c.neighbour_size_count-count.ensures.earlier)
-    (c.neighbour_size_count-count.ensures.value
-    ∙ ap (λ sizes. option_map (λ n. length (unwrap_or (slice_get sizes n) [])) (neighbour c.args.tree.now c.loop-i.i)) c.as_slice.ensures.value
-    ∙ ap (λ (tree : Tree). option_map (λ n. length (unwrap_or (slice_get c.loop-i.sizes.items n) [])) (neighbour tree c.loop-i.i)) c.requires.tree) in
+    let counted = found_size_count entries c.loop-i.i section c.loop-i.sizes.items c.as_slice.result.now c.args.tree.now c.neighbour_size_count-count.result at
+    c.loop-i.invariant.sizes c.as_slice.ensures.value c.requires.tree c.neighbour_size_count-count.ensures.earlier c.neighbour_size_count-count.ensures.value in
     let stops : Stops error (size_and_pair_rules (c.loop-i.i + 1) c.neighbour_size_count-count.result section) = stops_from error (size_and_pair_rules (c.loop-i.i + 1) c.neighbour_size_count-count.result section) (sizes_and_pairs c.neighbour_size_count-count.result section) c.in_err-own.ensures.value in
     let fails = stops_gives error (all_size_and_pair_rules entries) (all_sizes_and_pairs entries) (each_stops error (size_and_pair_rules_at entries) entries c.loop-i.i section c.loop-i.invariant.rules at
     (subst (λ found. Stops error (size_and_pair_rules (c.loop-i.i + 1) found section)) counted stops)) in
@@ -37,11 +33,8 @@ loop-i-preserved c =
     let section = section_entry c.index-sections-i.result in
     let within : c.loop-i.i < length sections = omega arith in
     let at = view_at section_entry sections c.loop-i.i c.index-sections-i.result within ∙ ap (λ table. Some (section_entry table)) (sym c.index-sections-i.is) in
-    let counted = found_size_count entries c.loop-i.i section c.loop-i.sizes.items c.neighbour_size_count-count.result at c.loop-i.invariant.sizes
-    (subst (λ (tree : Tree). IfSome (neighbour tree c.loop-i.i) (λ n. n < c.loop-i.i)) c.requires.tree c.neighbour_size_count-count.ensures.earlier)
-    (c.neighbour_size_count-count.ensures.value
-    ∙ ap (λ sizes. option_map (λ n. length (unwrap_or (slice_get sizes n) [])) (neighbour c.args.tree.now c.loop-i.i)) c.as_slice.ensures.value
-    ∙ ap (λ (tree : Tree). option_map (λ n. length (unwrap_or (slice_get c.loop-i.sizes.items n) [])) (neighbour tree c.loop-i.i)) c.requires.tree) in
+    let counted = found_size_count entries c.loop-i.i section c.loop-i.sizes.items c.as_slice.result.now c.args.tree.now c.neighbour_size_count-count.result at
+    c.loop-i.invariant.sizes c.as_slice.ensures.value c.requires.tree c.neighbour_size_count-count.ensures.earlier c.neighbour_size_count-count.ensures.value in
     let read = given (first_broken (size_and_pair_rules (c.loop-i.i + 1) c.neighbour_size_count-count.result section)) (sizes_and_pairs c.neighbour_size_count-count.result section) c.in_ok-own.own c.in_ok-own.ensures.value in
     record {
       end = c.loop-i.invariant.end;
