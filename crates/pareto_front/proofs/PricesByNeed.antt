@@ -1,10 +1,10 @@
 -- Points of prices by need: a price that is laid, one need more, and needs without a price.
-use Rattle.std.proofs.Common.{◌≡◌, ℕ, zero, suc, ◌+◌, ◌-◌, ◌<◌, ◌≤◌, min, max, cond, nat_le, true, false, refl, ap, sym, ◌∙◌, arith, inl, inr, subst, List, [], ◌∷◌, ◌++◌, Option, Some, None, length, take, drop, map, get_or, set, length-set, append-nil}
+use Rattle.std.proofs.Common.{◌≡◌, ℕ, zero, suc, ◌+◌, ◌-◌, ◌<◌, ◌≤◌, min, max, cond, nat_le, true, false, refl, ap, sym, ◌∙◌, arith, inl, inr, subst, List, [], ◌∷◌, ◌++◌, Option, Some, None, length, take, drop, map, get_or, set, length-set, append-nil, get_or-drop}
 use Rattle.std.specs.Prelude.{All, slice_get}
 use Rattle.std.specs.Option.{ForSome, option_or}
-use Rattle.std.proofs.lemmas.Bool.Decides.{nat_tests}
+use Rattle.std.proofs.lemmas.Bool.Decides.{leb_tells, nat_tests}
 use Rattle.std.proofs.lemmas.Bool.{cases_lt}
-use Rattle.std.proofs.lemmas.List.{take_more, take_all, take-append-drop, take-take, take-set-le, drop-drop, drop_all, drop-set-lt, length-take, length-map, get_or-map}
+use Rattle.std.proofs.lemmas.List.{take_more, take_more_set, take_all, take-append-drop, take-take, take-set-le, drop-drop, drop_all, drop-set-lt, length-take, length-map, get_or-map}
 use Rattle.std.proofs.lemmas.List.Elements.{All-nil, All-head, All-tail, All-take, All-drop, All-same, All-push, All-append, All-weaker}
 use Rattle.std.proofs.lemmas.Option.{none-some, slice_get_within, get_or_from_slice_get}
 use Rattle.duct_units.specs.Prices.{lesser}
@@ -312,3 +312,54 @@ module _ (old new : List ℕ) (points : List Point) (loss price i : ℕ) (laid :
       laid.least b
       ∙ ap (λ l. lesser (least_among (points_from 0 old) b) (least_among l b))
       (take_all i (map (moved_by loss price) points) (let long = length-map points (moved_by loss price) in omega arith))
+
+-- the first n prices are taken away
+pub record IsTakenTo (old new : List ℕ) (n : ℕ) : Type 0 where
+  pub wide : length new ≡ length old
+  pub gone : AreAbsent (take n new)
+  pub left : drop n new ≡ drop n old
+
+pub IsTakenTo-start : (prices : List ℕ) (from until : ℕ) → AreBetween from until prices → IsTakenTo prices prices from
+IsTakenTo-start prices from until are = record { wide = refl; gone = are.before; left = refl }
+
+module _ (old new : List ℕ) (n : ℕ) (taken : IsTakenTo old new n) where
+  -- the next one is still there
+  pub IsTakenTo-next_is : (d : ℕ) → get_or new n d ≡ get_or old n d
+  IsTakenTo-next_is d =
+      let same : n + 0 ≡ n = omega arith in
+      ap (λ i. get_or new i d) (sym same)
+      ∙ sym (get_or-drop n new 0 d) ∙ ap (λ l. get_or l 0 d) taken.left ∙ get_or-drop n old 0 d
+      ∙ ap (λ i. get_or old i d) same
+
+  pub IsTakenTo-next : n < length old → IsTakenTo old (set new n ABSENT) (n + 1)
+  IsTakenTo-next within = record {
+    wide = length-set new n ABSENT ∙ taken.wide;
+    gone = subst AreAbsent (sym (take_more_set new n ABSENT (let same = taken.wide in omega arith)))
+        (All-push (λ price. ABSENT ≤ price) (take n new) ABSENT taken.gone (omega arith));
+    left =
+        drop-set-lt (n + 1) new n ABSENT (omega arith)
+        ∙ sym (drop-drop 1 n new) ∙ ap (drop 1) taken.left ∙ drop-drop 1 n old;
+  }
+
+  -- at the end none is left
+  pub IsTakenTo-all : (from until : ℕ) → AreBetween from until old → until ≤ n → AreAbsent new
+  IsTakenTo-all from until are end =
+      absent_all new n taken.gone (subst AreAbsent (sym taken.left) (absent_after old until n end are.after))
+
+  -- what is left is between the same needs
+  pub IsTakenTo-between : (from until : ℕ) → from ≤ n → AreBetween from until old → n ≤ max from until → AreBetween from until new
+  IsTakenTo-between from until past are end = record {
+    starts = (let low = are.starts in let same = taken.wide in omega arith);
+    ends = (let high = are.ends in let same = taken.wide in omega arith);
+    before = absent_before new n from past taken.gone;
+    after = elim (leb_tells until n) [
+      | inl late ↦ All-drop (λ price. ABSENT ≤ price) until new (IsTakenTo-all from until are late.1)
+      | inr early ↦
+          (let before = early.1 in
+          let same : n + (until - n) ≡ until = omega arith in
+          let is : drop until new ≡ drop until old =
+          ap (λ m. drop m new) (sym same) ∙ sym (drop-drop (until - n) n new) ∙ ap (drop (until - n)) taken.left
+          ∙ drop-drop (until - n) n old ∙ ap (λ m. drop m old) same in
+          subst AreAbsent (sym is) are.after)
+    ];
+  }

@@ -4,7 +4,7 @@
 --   greatest_together fronts    the sum of the greatest costs of all fronts
 --   IsBoth first second both    the two fronts in one
 --   IsTotal fronts total        the front of what these fronts cost together
---   CostsAlike old new          the new fronts cost together what the old ones do, with needs and costs in the same bounds
+--   CostsAlike old new          the new fronts cost together what the old ones do, and keep to the same bounds
 use Rattle.std.specs.Prelude.{◌≡◌, ℕ, ◌+◌, ◌≤◌, List, [], ◌∷◌, Option, Some, All, sum_by, max}
 use Rattle.pareto_front.specs.declared.point.Point.{Point}
 use Rattle.duct_units.specs.Prices.{both_of}

@@ -1,5 +1,6 @@
 -- The least price at each need, by need. ABSENT stands for a need at which there is none.
 --   shown price                    the price, or none for ABSENT
+--   with_price price need points   the points with the one of the price before them, if it is there
 --   points_from need prices        a point for each price that is there, where the first price is at this need
 --   AreAbsent prices               no price is there
 --   AreBetween from until prices   no price is there at a need below from, and none from until on

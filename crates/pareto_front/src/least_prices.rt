@@ -77,8 +77,7 @@ impl LeastPrices {
         ensures clear { IfOk result (λ _. points_from 0 self.new ≡ []) }
         ensures wide { length self.new ≡ length self.old }
     {
-        keep_cheaper(self.prices.as_slice(), self.from, self.until, kept)?;
-        clear(&mut self.prices, self.from, self.until);
+        take_cheaper(&mut self.prices, self.from, self.until, kept)?;
         self.from = self.prices.len();
         self.until = 0;
         Ok(())
@@ -104,23 +103,28 @@ fn lay_points(prices: &mut [u64], points: &[Point], loss: u64, price: u64)
     }
 }
 
-/// Keeps the points that cost less than all before them, of the prices at the needs from `from` to `until`, dPa.
-fn keep_cheaper(
-    prices: &[u64],
+/// Takes the prices at the needs from `from` to `until` away, dPa; the points that cost less than all before them go
+/// into the buffer.
+fn take_cheaper(
+    prices: &mut [u64],
     from: usize,
     until: usize,
     kept: &mut Vec<Point>,
 ) -> Result<(), NoMemory>
     requires empty { kept.old.items ≡ [] }
-    requires between { AreBetween from until prices.now }
+    requires between { AreBetween from until prices.old }
     ensures front { IfOk result (λ _. IsFront kept.new.items) }
     ensures value { IfOk result (λ _. (budget : ℕ) →
-        cheapest kept.new.items budget ≡ least_among (points_from 0 prices.now) budget) }
-    ensures needs { IfOk result (λ _. All (λ point. point.need < length prices.now) kept.new.items) }
+        cheapest kept.new.items budget ≡ least_among (points_from 0 prices.old) budget) }
+    ensures needs { IfOk result (λ _. All (λ point. point.need < length prices.old) kept.new.items) }
+    ensures absent { IfOk result (λ _. AreAbsent prices.new) }
+    ensures between { AreBetween from until prices.new }
+    ensures wide { length prices.new ≡ length prices.old }
 {
     let mut best = ABSENT;
     for need in from..until {
         let cost = prices[need];
+        prices[need] = ABSENT;
         if cost < best {
             best = cost;
             kept.push(Point {
@@ -130,15 +134,4 @@ fn keep_cheaper(
         }
     }
     Ok(())
-}
-
-/// Takes the prices at the needs from `from` to `until` away, dPa.
-fn clear(prices: &mut [u64], from: usize, until: usize)
-    requires { AreBetween from until prices.old }
-    ensures absent { AreAbsent prices.new }
-    ensures wide { length prices.new ≡ length prices.old }
-{
-    for need in from..until {
-        prices[need] = ABSENT;
-    }
 }

@@ -1,0 +1,7 @@
+use Rattle.std.proofs.Common.{◌≤◌, max}
+use Rattle.pareto_front.proofs.PricesByNeed.{IsScannedTo, IsTakenTo}
+use Rattle.pareto_front.proofs.least_prices.take_cheaper.Given as goal
+
+abbrev pub invariant-loop-need : goal.invariant-loop-need
+invariant-loop-need l =
+    (l.need ≤ max l.from l.until) × IsTakenTo l.fn.prices l.prices l.need × IsScannedTo l.fn.prices l.kept.items l.need l.best
