@@ -19,7 +19,7 @@ says_once status said s t one other says again = (says.0 ∙ sym again.0, says.1
 design_once : (net : Network) (s t : ℕ) (one other : List ℕ) → AnswersDesign net s one → AnswersDesign net t other → AreOne s t one other
 design_once net s t one other (inl best) (inl again) =
     let same : ◌≡◌ {A = List ℕ} (text (listed net best.0)) (text (listed net again.0)) = ap (λ (d : Design). text (listed net d)) (best_is_one net best.0 again.0 best.1 again.1) in
-    (best.2.0 ∙ sym again.2.0, best.2.1 ∙ same ∙ sym again.2.1)
+    (best.3.0 ∙ sym again.3.0, best.3.1 ∙ same ∙ sym again.3.1)
 design_once net s t one other (inl best) (inr none) = absurd (none.0 best.0 best.1.meets)
 design_once net s t one other (inr none) (inl best) = absurd (none.0 best.0 best.1.meets)
 design_once net s t one other (inr none) (inr again) = says_once _ _ s t one other none.1 again.1

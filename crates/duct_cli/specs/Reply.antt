@@ -5,6 +5,7 @@ use Rattle.duct_cli.specs.declared.words.Command.{Command as Asked}
 use Rattle.duct_cli.specs.declared.words.Command.TheVariants.{Pick}
 use Rattle.duct_cli.specs.declared.reply.Reply.{Reply}
 use Rattle.duct_cli.specs.declared.reply.Reply.TheVariants as reply
+use Rattle.duct_cli.specs.declared.status.TheConstants.{READ_FAULT, REFUSED_WORDS}
 use Rattle.duct_cli.specs.Answer.{AnswersCommand}
 use Rattle.duct_cli.specs.Words.{Command, pick, command_of}
 
@@ -12,13 +13,13 @@ use Rattle.duct_cli.specs.Words.{Command, pick, command_of}
 abbrev pub command_seen : Asked → Command
 command_seen (Pick network) = pick network.now
 
--- the answer of a command, with status 0, 1 or 3
+-- the answer of a command, with a status that neither a fault nor refused words have
 pub record IsAnswered (command : Command) (held : Option Contents) (status : ℕ) (text : List ℕ) : Type 0 where
-  pub status_below : status < 4
-  pub status_other : status ≢ 2
+  pub status_below : status < READ_FAULT
+  pub status_other : status ≢ REFUSED_WORDS
   pub answer : IfSome held (λ contents. AnswersCommand contents command status text)
 
--- a fault of the files where there may be one, the answer, or want of memory
+-- a fault of the files where there may be one, the answer, or no memory
 abbrev pub IsCommandReply : Command → Option Contents → Type 0 → Reply → Type 0
 IsCommandReply command held MayFault reply.RefusedWords = ⊥
 IsCommandReply command held MayFault reply.ReadFault = MayFault

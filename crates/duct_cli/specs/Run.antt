@@ -16,7 +16,7 @@ abbrev pub Answers : List (List ℕ) → Option Contents → ℕ → Option (Lis
 Answers words held status old new =
     IfSome held (λ contents. (text : List ℕ) × IsAnswer words contents status text × Appends old new text)
 
--- a proper front was taken of the answer's text, or of the line of a read fault where there may be one
+-- a proper prefix was taken of the answer's text, or of the line of a read fault where there may be one
 abbrev pub AnswersPart : List (List ℕ) → Option Contents → Type 0 → Option (List ℕ) → Option (List ℕ) → Type 0
 AnswersPart words held MayFault old new =
     IfSome held (λ contents.

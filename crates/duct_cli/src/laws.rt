@@ -1,5 +1,6 @@
 //! Laws of the answer. Each is the contract of a call that has nothing to do.
 ghost use Rattle.std.specs.Prelude.{◌≡◌, ℕ, List};
+ghost use Rattle.duct_cli.specs.declared.status.TheConstants.{FOUND, REFUSED, REFUSED_WORDS, NONE_FOUND, READ_FAULT, WRITE_FAULT, OUT_OF_MEMORY, NO_WORDS};
 ghost use Rattle.duct_cli.specs.Answer.{IsAnswer};
 
 /// The same words over the same files have one answer: one status, and one text.
@@ -7,4 +8,16 @@ ghost use Rattle.duct_cli.specs.Answer.{IsAnswer};
 pub fn answer_is_one()
     ensures { (words : List (List ℕ)) → (contents : List ℕ → List ℕ) → (s t : ℕ) → (text other : List ℕ)
         → IsAnswer words contents s text → IsAnswer words contents t other → (s ≡ t) × (text ≡ other) }
+{}
+
+/// The statuses as numbers, as scripts see them.
+pub fn statuses_as_numbers()
+    ensures found { FOUND ≡ 0 }
+    ensures refused { REFUSED ≡ 1 }
+    ensures refused_words { REFUSED_WORDS ≡ 2 }
+    ensures none_found { NONE_FOUND ≡ 3 }
+    ensures read_fault { READ_FAULT ≡ 4 }
+    ensures write_fault { WRITE_FAULT ≡ 5 }
+    ensures out_of_memory { OUT_OF_MEMORY ≡ 6 }
+    ensures no_words { NO_WORDS ≡ 7 }
 {}

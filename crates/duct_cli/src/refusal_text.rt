@@ -9,7 +9,7 @@ use std::alloc::Global;
 use text_lines::{Text, number};
 
 /// The line of refused words.
-#[tactic(auto, unfolding(duct_definitions::specs::DesignText::line))]
+#[tactic(auto, unfolding(duct_units::specs::Lines::line))]
 pub fn words_text() -> &'static [u8]
     ensures { result.now ≡ words_line }
 {
@@ -17,7 +17,7 @@ pub fn words_text() -> &'static [u8]
 }
 
 /// The line of a read fault.
-#[tactic(auto, unfolding(duct_definitions::specs::DesignText::line))]
+#[tactic(auto, unfolding(duct_units::specs::Lines::line))]
 pub fn fault_text() -> &'static [u8]
     ensures { result.now ≡ fault_line }
 {

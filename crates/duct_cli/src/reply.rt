@@ -3,6 +3,8 @@ ghost use Rattle.std.specs.Prelude.{◌≡◌, ◌≢◌, ◌<◌, ◌≤◌, �
 ghost use Rattle.duct_units.specs.declared.fault.Reason.TheVariants.{TooLong};
 ghost use Rattle.duct_units.specs.Rules.{file_fault};
 ghost use Rattle.duct_definitions.specs.Designs.{Meets};
+ghost use Rattle.duct_definitions.specs.Balance.{IsBalanced};
+ghost use Rattle.duct_definitions.specs.Network.{IsNetwork};
 ghost use Rattle.duct_definitions.specs.DesignText.{text, listed};
 ghost use Rattle.duct_ports.specs.Faults.{Rose};
 ghost use Rattle.duct_cli.specs.Words.{pick};
@@ -12,8 +14,10 @@ ghost use Rattle.duct_cli.specs.Reply.{IsReply, IsCommandReply};
 ghost use Rattle.duct_cli.specs.Run.{AsksFor};
 
 use crate::refusal_text::refusal_text;
+use crate::status::{FOUND, NONE_FOUND, READ_FAULT, REFUSED, REFUSED_WORDS};
 use crate::words::{Command, FileKind};
 use damper_balance::balance;
+use design_laws::dampers_balance_every_path;
 use design_text::{print, print_none};
 use duct_ports::{Files, TakeError, read_all};
 use duct_units::{Fault, List, NoMemory, ReadError, Reason};
@@ -82,16 +86,16 @@ fn replied(answer: Result<Answer, NoMemory>) -> Reply
 }
 
 fn answer_too_long(alloc: Global, file: FileKind) -> Result<Answer, NoMemory>
-    ensures { IfOk result (λ a. (a.status ≡ 1) × (a.text ≡ refusal_line file (file_fault TooLong))) }
+    ensures { IfOk result (λ a. (a.status ≡ REFUSED) × (a.text ≡ refusal_line file (file_fault TooLong))) }
 {
     refused(alloc, file, &Fault::of_file(Reason::TooLong))
 }
 
 fn refused(alloc: Global, file: FileKind, fault: &Fault) -> Result<Answer, NoMemory>
-    ensures { IfOk result (λ a. (a.status ≡ 1) × (a.text ≡ refusal_line file fault.now)) }
+    ensures { IfOk result (λ a. (a.status ≡ REFUSED) × (a.text ≡ refusal_line file fault.now)) }
 {
     Ok(Answer {
-        status: 1,
+        status: REFUSED,
         text: refusal_text(alloc, file, fault)?,
     })
 }
@@ -99,7 +103,7 @@ fn refused(alloc: Global, file: FileKind, fault: &Fault) -> Result<Answer, NoMem
 /// The answer for the bytes of a network file.
 fn answer_network(alloc: Global, bytes: &[u8]) -> Result<Answer, NoMemory>
     ensures answer { IfOk result (λ a. AnswersNetwork bytes.now a.status a.text) }
-    ensures status { IfOk result (λ a. (a.status < 4) × (a.status ≢ 2)) }
+    ensures status { IfOk result (λ a. (a.status < READ_FAULT) × (a.status ≢ REFUSED_WORDS)) }
 {
     match read_network(alloc, bytes) {
         Ok(net) => answer_design(alloc, &net),
@@ -111,25 +115,35 @@ fn answer_network(alloc: Global, bytes: &[u8]) -> Result<Answer, NoMemory>
 /// The best design, or none.
 fn answer_design(alloc: Global, net: &Network) -> Result<Answer, NoMemory>
     ensures answer { IfOk result (λ a. AnswersDesign net.now a.status a.text) }
-    ensures status { IfOk result (λ a. (a.status < 4) × (a.status ≢ 2)) }
+    ensures status { IfOk result (λ a. (a.status < READ_FAULT) × (a.status ≢ REFUSED_WORDS)) }
 {
     match best_design(alloc, net)? {
         Some(best) => Ok(Answer {
-            status: 0,
+            status: FOUND,
             text: design_text(alloc, net, &best)?,
         }),
         None => Ok(Answer {
-            status: 3,
+            status: NONE_FOUND,
             text: print_none(alloc, &net.name())?,
         }),
     }
 }
 
-/// The text of a design, with its heads and dampers.
+/// The text of a design, with its heads and dampers, which balance every path.
 fn design_text(alloc: Global, net: &Network, d: &Design) -> Result<List<u8>, NoMemory>
     requires { Meets net.now d.now }
-    ensures { IfOk result (λ answer. answer ≡ text (listed net.now d.now)) }
+    ensures text { IfOk result (λ answer. answer ≡ text (listed net.now d.now)) }
+    ensures balanced { IsBalanced net.now d.now }
 {
+    dampers_balance_every_path();
+    knows_network(net);
     let dampers = balance(alloc, net, d)?;
     print(alloc, net, d, &dampers)
+}
+
+/// Tells a proof that the network is valid.
+fn knows_network(net: &Network)
+    ensures { IsNetwork net.now }
+{
+    let _ = net.tree();
 }

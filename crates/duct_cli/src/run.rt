@@ -9,12 +9,13 @@ ghost use Rattle.duct_cli.specs.Words.{command_of};
 
 use crate::refusal_text::{fault_text, words_text};
 use crate::reply::{Reply, reply_to};
+use crate::status::{OUT_OF_MEMORY, READ_FAULT, REFUSED_WORDS, WRITE_FAULT};
 use duct_ports::{Files, Sink, write_all};
 use std::alloc::Global;
 
 /// Answers the words, from files to a sink, and gives the status: 0 with a design, 1 with a refusal of bytes, 2 with
 /// the line of refused words, 3 where no design meets the rules, 4 after a fault of the files, 5 after a fault of the
-/// sink, and 6 where memory ran out.
+/// sink, and 6 where memory ran out (`status.rt`).
 pub fn run<'w, F: Files<'w>, W: Sink>(
     alloc: Global,
     words: &'w [String],
@@ -23,51 +24,53 @@ pub fn run<'w, F: Files<'w>, W: Sink>(
 ) -> u8
     requires { F.asked files.old ≡ [] }
 
-    ensures status { result ≤ 6 }
+    ensures status { result ≤ OUT_OF_MEMORY }
     ensures names { AsksFor (map string_bytes words.now) (F.asked files.new) }
     ensures kept { F.held files.new ≡ F.held files.old }
 
     // The answer, whole, whether or not a count of faults rose.
-    ensures answer { result < 4
+    ensures answer { result < READ_FAULT
         → Answers (map string_bytes words.now) (F.held files.old) result (W.taken out.old) (W.taken out.new) }
 
     // Refused words are the answer's cause, whatever files and memory do.
-    ensures words { command_of (map string_bytes words.now) ≡ None → (result ≡ 2) ⊎ (result ≡ 5) }
-    ensures refused_words { result ≡ 2
+    ensures words { command_of (map string_bytes words.now) ≡ None → (result ≡ REFUSED_WORDS) ⊎ (result ≡ WRITE_FAULT) }
+    ensures words_part { command_of (map string_bytes words.now) ≡ None → result ≡ WRITE_FAULT
+        → AppendsPart (W.taken out.old) (W.taken out.new) words_line }
+    ensures refused_words { result ≡ REFUSED_WORDS
         → (command_of (map string_bytes words.now) ≡ None) × Appends (W.taken out.old) (W.taken out.new) words_line }
 
     // Each fault has its cause.
-    ensures read_fault { result ≡ 4 → Rose (F.fault_count files.old) (F.fault_count files.new)
+    ensures read_fault { result ≡ READ_FAULT → Rose (F.fault_count files.old) (F.fault_count files.new)
         × Appends (W.taken out.old) (W.taken out.new) fault_line }
-    ensures write_fault { result ≡ 5 → Rose (W.fault_count out.old) (W.fault_count out.new)
+    ensures write_fault { result ≡ WRITE_FAULT → Rose (W.fault_count out.old) (W.fault_count out.new)
         × AnswersPart (map string_bytes words.now) (F.held files.old)
         (Rose (F.fault_count files.old) (F.fault_count files.new)) (W.taken out.old) (W.taken out.new) }
 
-    // Without a fault there is an answer, or want of memory.
+    // Without a fault there is an answer, or memory ran out.
     ensures complete { ¬ Rose (F.fault_count files.old) (F.fault_count files.new)
-        → ¬ Rose (W.fault_count out.old) (W.fault_count out.new) → (result < 4) ⊎ (result ≡ 6) }
+        → ¬ Rose (W.fault_count out.old) (W.fault_count out.new) → (result < READ_FAULT) ⊎ (result ≡ OUT_OF_MEMORY) }
 
-    // Want of memory writes nothing.
-    ensures memory { result ≡ 6 → Keeps (W.taken out.old) (W.taken out.new) }
+    // Nothing is written where memory ran out.
+    ensures memory { result ≡ OUT_OF_MEMORY → Keeps (W.taken out.old) (W.taken out.new) }
 {
     match reply_to(alloc, words, files) {
-        Reply::RefusedWords => finish(out, words_text(), 2),
-        Reply::ReadFault => finish(out, fault_text(), 4),
+        Reply::RefusedWords => finish(out, words_text(), REFUSED_WORDS),
+        Reply::ReadFault => finish(out, fault_text(), READ_FAULT),
         Reply::Answered(answer) => finish(out, answer.text.as_slice(), answer.status),
-        Reply::NoMemory => 6,
+        Reply::NoMemory => OUT_OF_MEMORY,
     }
 }
 
 /// Writes a text, and answers the status or a write fault.
 fn finish<W: Sink>(out: &mut W, text: &[u8], status: u8) -> u8
-    requires { status ≢ 5 }
-    ensures known { (result ≡ status) ⊎ (result ≡ 5) }
+    requires { status ≢ WRITE_FAULT }
+    ensures known { (result ≡ status) ⊎ (result ≡ WRITE_FAULT) }
     ensures written { result ≡ status → Appends (W.taken out.old) (W.taken out.new) text.now }
-    ensures part { result ≡ 5 → Rose (W.fault_count out.old) (W.fault_count out.new)
+    ensures part { result ≡ WRITE_FAULT → Rose (W.fault_count out.old) (W.fault_count out.new)
         × AppendsPart (W.taken out.old) (W.taken out.new) text.now }
 {
     match write_all(out, text) {
         Ok(()) => status,
-        Err(_) => 5,
+        Err(_) => WRITE_FAULT,
     }
 }

@@ -33,9 +33,9 @@ flow_within-same t air tree (suc j) zero s deep other within = absurd (omega ari
 flow_within-same t air tree (suc j) (suc k) s deep other within =
     ap (with_leak (leak_at air s))
     (passing-same (flow_within j t air) (flow_within k t air) t air s (λ i d at.
-        let later : s < get_or (children t s) i d = children_later t s tree i d at in
-        let below : get_or (children t s) i d < section_count t = children_sections t s i d at in
-        flow_within-same t air tree j k (get_or (children t s) i d) (omega arith) (omega arith) below))
+    let later : s < get_or (children t s) i d = children_later t s tree i d at in
+    let below : get_or (children t s) i d < section_count t = children_sections t s i d at in
+    flow_within-same t air tree j k (get_or (children t s) i d) (omega arith) (omega arith) below))
 
 -- what a section carries is what is to pass it, with its leak
 pub flow_of_section : (t : Tree) (air : Airflows) → IsTree t → (s : ℕ) → s < section_count t
