@@ -15,6 +15,7 @@ class Network:
         doc = tomllib.loads(text)
         self.name = doc["name"]
         self.fans = [(fan["name"], fan["pressure"], fan["cost"]) for fan in doc.get("fan", [])]
+        self.return_fans = []
         sections = doc["section"]
         place = {section["name"]: s for s, section in enumerate(sections)}
         self.names = [section["name"] for section in sections]
@@ -48,7 +49,8 @@ def worst(net, losses, side):
 
 
 def designs(net):
-    """Every design that meets the rules: its cost, its fan, its worst supply loss and its sizes, in no order."""
+    """Every design that meets the rules: its cost, its fan, the turn of its return fan (0 for none, else its number from
+    1), its worst supply loss and its sizes, in no order. The lesser of two comes first."""
     for sizes in itertools.product(*(range(len(names)) for names in net.sizes)):
         pairs = [net.pair(sizes, s) for s in net.sections]
         if None in pairs:
@@ -58,7 +60,10 @@ def designs(net):
         price = sum(price for _, price in pairs)
         for fan, (_, pressure, cost) in enumerate(net.fans):
             if supply + back <= pressure:
-                yield price + cost, fan, supply, sizes
+                yield price + cost, fan, 0, supply, sizes
+            for turn, (_, own_pressure, own_cost) in enumerate(net.return_fans, 1):
+                if supply <= pressure and back <= own_pressure:
+                    yield price + cost + own_cost, fan, turn, supply, sizes
 
 
 def slack(net, losses, heads, s):
@@ -68,13 +73,17 @@ def slack(net, losses, heads, s):
 
 def design_text(net, design):
     """The text of a design."""
-    cost, fan, supply, sizes = design
+    cost, fan, turn, supply, sizes = design
     name, pressure, fan_cost = net.fans[fan]
     pairs = [net.pair(sizes, s) for s in net.sections]
     losses = [loss for loss, _ in pairs]
     back = worst(net, losses, "return")
     heads = {"supply": pressure - back, "return": back}
-    lines = ["design 1", f"project {net.name}", f"fan {name} {pressure} {fan_cost}"]
+    lines = [f"design {2 if turn else 1}", f"project {net.name}", f"fan {name} {pressure} {fan_cost}"]
+    if turn:
+        own_name, own_pressure, own_cost = net.return_fans[turn - 1]
+        heads = {"supply": pressure, "return": own_pressure}
+        lines.append(f"return-fan {own_name} {own_pressure} {own_cost}")
     lines += [f"supply {supply} {heads['supply']}", f"return {back} {heads['return']}"]
     for s in net.sections:
         beside = net.neighbours[s]
