@@ -1,0 +1,5 @@
+pub mod Membership
+pub mod Claims
+pub mod OrderlyLaws
+pub mod Numbers
+pub mod Steps

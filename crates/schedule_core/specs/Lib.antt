@@ -1,0 +1,6 @@
+pub mod Schedule
+pub mod Orderly
+pub mod Answers
+pub mod CoreData
+pub mod CoreFields
+pub mod CoreInside
