@@ -7,6 +7,7 @@
 
 mod compare;
 mod fault;
+pub mod laws;
 mod list;
 mod name;
 mod number;

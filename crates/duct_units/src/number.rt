@@ -6,7 +6,7 @@ use std::str;
 
 /// The number that the bytes spell, where it lies from `low` to `high`. Both bounds count.
 ///
-/// The spelling has no leading zero, no `+`, no blank, and a `-` only before a number that isn't 0.
+/// The spelling has no leading zero, no `+`, no space, and a `-` only before a number that isn't 0.
 pub fn whole(bytes: &[u8], low: i64, high: i64) -> Option<i64>
     requires { low ≤ℤ high }
     ensures some { IfSome result (IsWhole bytes.now low high) }
