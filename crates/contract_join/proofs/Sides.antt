@@ -5,6 +5,7 @@ use Rattle.std.proofs.lemmas.Bool.{and_parts}
 use Rattle.std.proofs.lemmas.List.{take_all, length-take}
 use Rattle.std.proofs.lemmas.List.Elements.{All-weaker}
 use Rattle.std.proofs.lemmas.List.FromFn.{length-range_with_len}
+use Rattle.pareto_front.specs.declared.point.TheConstants.{COST_LIMIT}
 use Rattle.pareto_front.specs.declared.point.Point.{Point}
 use Rattle.pareto_front.specs.Front.{NeedsWithin, CostsWithin, cheapest}
 use Rattle.duct_units.specs.declared.side.Side.{Side}
@@ -45,10 +46,10 @@ roots-few t x tree =
     omega arith
 
 pub side-below : (net : Network) → IsNetwork net → (x : Side) (sum : List Point) → CostsWithin (length (roots net.tree x) * most_beyond net) sum
-    → All (λ point. point.cost < 10 ^ 18) sum
+    → All (λ point. point.cost < COST_LIMIT) sum
 side-below net valid x sum costs =
     let most = times-most_beyond net valid.tree (length (roots net.tree x)) (roots-few net.tree x valid.tree) in
-    All-weaker (λ point. point.cost ≤ length (roots net.tree x) * most_beyond net) (λ point. point.cost < 10 ^ 18) (λ point low. omega arith) sum costs
+    All-weaker (λ point. point.cost ≤ length (roots net.tree x) * most_beyond net) (λ point. point.cost < COST_LIMIT) (λ point low. omega arith) sum costs
 
 -- the entry is that of the i-th root
 pub record IsRootAt (net : Network) (x : Side) (i : ℕ) (entry : SectionData) : Type 0 where

@@ -6,9 +6,10 @@ ghost use Rattle.contract_join.specs.Condensing.{AreFrontsFrom};
 
 use crate::close::fronts_beside;
 use crate::join::Join;
-use crate::section_fronts::{SectionFronts, tell_valid};
+use crate::section_fronts::SectionFronts;
 use duct_units::{List, NoMemory};
 use net_model::Network;
+use net_model::laws::network_is_valid;
 use std::alloc::Global;
 
 /// The fronts of each section of the network, in section order.
@@ -65,7 +66,7 @@ fn beyond_one<'n>(
     ensures network { IfOk result (λ fronts. fronts.net ≡ net.now) }
     ensures section { IfOk result (λ fronts. fronts.section ≡ s) }
 {
-    tell_valid(net);
+    network_is_valid(net);
     let fronts = fronts_beside(alloc, net, s, child.fronts())?;
     Ok(SectionFronts::of(net, s, fronts))
 }

@@ -6,9 +6,10 @@ ghost use Rattle.pareto_front.specs.FrontSum.{greatest_together};
 ghost use Rattle.contract_join.specs.Join.{IsAdding, AddsChild, HaveRoom, AreTotals};
 
 use crate::close::fronts_beside;
-use crate::section_fronts::{SectionFronts, tell_valid};
+use crate::section_fronts::SectionFronts;
 use duct_units::{List, NoMemory};
 use net_model::Network;
+use net_model::laws::network_is_valid;
 use pareto_front::{Front, FrontSum};
 use std::alloc::Global;
 use std::marker::Model;
@@ -96,7 +97,7 @@ fn no_children(alloc: Global, net: &Network, s: u32) -> Result<Vec<FrontSum>, No
     requires { s < section_count net.now.tree }
     ensures { IfOk result (λ sums. IsAdding net.now s 0 sums.items) }
 {
-    tell_valid(net);
+    network_is_valid(net);
     let count = net.size_count(s);
     let mut sums = Vec::with_capacity(alloc, count as usize)?;
     for _ in 0..count {

@@ -4,9 +4,11 @@ ghost use Rattle.duct_definitions.specs.Network.{IsNetwork, columns, cap};
 ghost use Rattle.least_laws.specs.Least.{IsLeast};
 ghost use Rattle.pareto_front.specs.Front.{NeedsWithin, CostsWithin, cheapest};
 ghost use Rattle.contract_join.specs.SectionFronts.{AreExact, front_of, most_beyond};
+ghost use Rattle.pareto_front.specs.declared.point.TheConstants.{COST_LIMIT};
 
 use duct_units::List;
 use net_model::Network;
+use net_model::laws::network_is_valid;
 use pareto_front::Front;
 use std::marker::Model;
 
@@ -72,9 +74,9 @@ impl<'n> SectionFronts<'n> {
         ensures least { IsLeast self.now.net self.now.section g budget result }
         ensures value { result ≡ cheapest (front_of self.now.fronts g) budget }
         ensures bounds { IfSome result (λ cost. cost ≤ most_beyond self.now.net) }
-        ensures below { IfSome result (λ cost. cost < 10 ^ 18) }
+        ensures below { IfSome result (λ cost. cost < COST_LIMIT) }
     {
-        tell_valid(self.net);
+        network_is_valid(self.net);
         self.front(g).cheapest(budget)
     }
 
@@ -89,11 +91,4 @@ impl<'n> SectionFronts<'n> {
     {
         &self.fronts.as_slice()[g as usize]
     }
-}
-
-/// Tells a proof that the network is valid.
-pub(crate) fn tell_valid(net: &Network)
-    ensures { IsNetwork net.now }
-{
-    let _ = net.tree();
 }

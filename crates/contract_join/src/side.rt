@@ -5,6 +5,7 @@ ghost use Rattle.duct_definitions.specs.Network.{cap};
 ghost use Rattle.least_laws.specs.Choosing.{side_least};
 ghost use Rattle.pareto_front.specs.Front.{NeedsWithin, CostsWithin, cheapest};
 ghost use Rattle.contract_join.specs.SectionFronts.{AreFrontsOf, most_beyond};
+ghost use Rattle.pareto_front.specs.declared.point.TheConstants.{COST_LIMIT};
 
 use crate::section_fronts::SectionFronts;
 use duct_units::{NoMemory, Side};
@@ -26,7 +27,7 @@ pub fn side_of(
     ensures needs { IfOk result (NeedsWithin (cap net.now)) }
     ensures costs { IfOk result
         (CostsWithin (length (roots net.now.tree side) * most_beyond net.now)) }
-    ensures below { IfOk result (All (λ point. point.cost < 10 ^ 18)) }
+    ensures below { IfOk result (All (λ point. point.cost < COST_LIMIT)) }
 {
     let mut sum = FrontSum::new(alloc);
     for root in net.tree().roots(side) {

@@ -1,8 +1,5 @@
 //! A choice of one fan, or of one on each side, and of what each side may lose.
 
-/// No point of a front that a fan is chosen for costs this much, cents: the cost of both sides and a fan then fits.
-pub const COST_LIMIT: u64 = 1_000_000_000_000_000_000;
-
 /// One fan, or one on each side, and what each side may lose.
 #[derive(Clone, Copy, Debug, PartialEq, Eq)]
 pub struct Choice {

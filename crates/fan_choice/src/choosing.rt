@@ -5,12 +5,14 @@ ghost use Rattle.duct_definitions.specs.declared.limits.TheConstants.{MAX_FAN_CO
 ghost use Rattle.pareto_front.specs.Front.{IsFront};
 ghost use Rattle.fan_choice.specs.Choice.{IsChoiceOf, NoFanCovers, NoneIsPriced};
 ghost use Rattle.fan_choice.specs.OwnFans.{best_of};
+ghost use Rattle.pareto_front.specs.declared.point.TheConstants.{COST_LIMIT};
 
 use crate::cheaper::cheaper;
-use crate::choice::{COST_LIMIT, Choice};
+use crate::choice::Choice;
 use crate::own_fans::{ReturnOffer, best_beside, best_return};
 use crate::sharing::{best_shared, within};
-use net_model::{NetFan, Network};
+use duct_definitions::NetFan;
+use net_model::Network;
 use pareto_front::{Front, Point};
 
 /// The fans and the budgets of the least cost of fans, supply and return together; of equal ones the first fan, then no

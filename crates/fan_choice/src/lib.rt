@@ -12,5 +12,5 @@ mod choosing;
 mod own_fans;
 mod sharing;
 
-pub use choice::{COST_LIMIT, Choice};
+pub use choice::Choice;
 pub use choosing::choose;

@@ -3,11 +3,13 @@ ghost use Rattle.std.specs.Prelude.{◌≡◌, ◌+◌, ◌<◌, ◌≤◌, All,
 ghost use Rattle.duct_definitions.specs.declared.limits.TheConstants.{MAX_FAN_COST};
 ghost use Rattle.pareto_front.specs.Front.{IsFront};
 ghost use Rattle.fan_choice.specs.OwnFans.{last_within, return_offer, best_return, best_beside};
+ghost use Rattle.pareto_front.specs.declared.point.TheConstants.{COST_LIMIT};
 
 use crate::cheaper::{Offer, cheaper};
-use crate::choice::{COST_LIMIT, Choice};
+use crate::choice::Choice;
 use crate::sharing::within;
-use net_model::{NetFan, Network};
+use duct_definitions::NetFan;
+use net_model::Network;
 use pareto_front::Point;
 
 /// A return fan with the cheapest that its pressure buys on the return side.

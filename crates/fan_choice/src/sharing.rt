@@ -4,10 +4,11 @@ ghost use Rattle.duct_definitions.specs.declared.limits.TheConstants.{MAX_FAN_CO
 ghost use Rattle.pareto_front.specs.Front.{IsFront};
 ghost use Rattle.pareto_front.specs.Sweep.{last_cost};
 ghost use Rattle.fan_choice.specs.Sharing.{best_shared, share};
+ghost use Rattle.pareto_front.specs.declared.point.TheConstants.{COST_LIMIT};
 
 use crate::cheaper::{Offer, cheaper};
-use crate::choice::{COST_LIMIT, Choice};
-use net_model::NetFan;
+use crate::choice::Choice;
+use duct_definitions::NetFan;
 use pareto_front::Point;
 
 impl Offer for Choice {

@@ -5,6 +5,7 @@ ghost use Rattle.std.specs.Prelude.{◌≡◌, ℕ, ◌+◌, ◌<◌, ◌≤◌,
 ghost use Rattle.std.specs.Option.{ForSome};
 ghost use Rattle.duct_units.specs.Prices.{both_of};
 ghost use Rattle.pareto_front.specs.Front.{IsFront, CostsNoMore, NeedsWithin, CostsWithin, cheapest};
+ghost use Rattle.pareto_front.specs.declared.point.TheConstants.{COST_LIMIT};
 
 use crate::front::Front;
 
@@ -50,6 +51,11 @@ pub fn sums_fit(a: &Front, b: &Front, x: u64, y: u64)
     requires bounds { x + y < 2 ^ 64 }
     ensures { (budget : ℕ) → ForSome
         (both_of (cheapest a.now budget) (cheapest b.now budget)) (λ cost. cost < 2 ^ 64) }
+{}
+
+/// The limit of costs as a number, cents.
+pub fn limit_as_number()
+    ensures { COST_LIMIT ≡ 10 ^ 18 }
 {}
 
 /// Tells a proof that the points are a front.

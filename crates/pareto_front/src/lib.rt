@@ -18,4 +18,4 @@ mod sweep;
 pub use front::Front;
 pub use front_sum::FrontSum;
 pub use laid_points::LaidPoints;
-pub use point::Point;
+pub use point::{COST_LIMIT, Point};

@@ -8,3 +8,6 @@ pub struct Point {
     /// What the choice costs, cents.
     pub cost: u64,
 }
+
+/// No point of the fronts of a network costs this much, cents: a fan and both sides then add up within 64 bits.
+pub const COST_LIMIT: u64 = 1_000_000_000_000_000_000;

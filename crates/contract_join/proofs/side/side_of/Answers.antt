@@ -1,6 +1,7 @@
 use Rattle.std.proofs.Common.{◌≡◌, ℕ, ◌*◌, ◌<◌, ◌≤◌, ◌^◌, arith, ap, sym, ◌∙◌, subst, List, length}
 use Rattle.std.specs.Prelude.{All, IfOk}
 use Rattle.std.proofs.lemmas.Result.{IfOk-weaker}
+use Rattle.pareto_front.specs.declared.point.TheConstants.{COST_LIMIT}
 use Rattle.pareto_front.specs.declared.point.Point.{Point}
 use Rattle.pareto_front.specs.Front.{NeedsWithin, CostsWithin, cheapest}
 use Rattle.duct_definitions.specs.Tree.{Tree, roots}
@@ -82,5 +83,5 @@ returns-clause-costs c =
 pub returns-clause-below : goal.returns-clause-below
 returns-clause-below c =
     IfOk-weaker c.total.result (CostsWithin (length (roots c.args.net.now.tree c.args.side) * most_beyond c.args.net.now))
-    (λ front. All (λ point. point.cost < 10 ^ 18) front)
+    (λ front. All (λ point. point.cost < COST_LIMIT) front)
     (λ front low. side-below c.args.net.now c.tree.ensures.network c.args.side front low) (returns-clause-costs c)

@@ -1,7 +1,7 @@
 use Rattle.std.proofs.Common.{◌≡◌, ◌+◌, ◌<◌}
 use Rattle.std.specs.Prelude.{IfSome}
 use Rattle.duct_definitions.specs.declared.limits.TheConstants.{MAX_FAN_COST}
-use Rattle.fan_choice.specs.declared.choice.TheConstants.{COST_LIMIT}
+use Rattle.pareto_front.specs.declared.point.TheConstants.{COST_LIMIT}
 use Rattle.fan_choice.specs.FirstCheapest.{first_cheapest}
 use Rattle.fan_choice.specs.OwnFans.{return_offers}
 use Rattle.fan_choice.proofs.BesideFan.{price}

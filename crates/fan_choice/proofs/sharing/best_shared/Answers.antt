@@ -1,5 +1,5 @@
 use Rattle.std.proofs.Common.{◌≡◌, ◌∙◌, ◌<◌, length, ap, sym, arith}
-use Rattle.fan_choice.specs.declared.choice.TheConstants.{COST_LIMIT}
+use Rattle.pareto_front.specs.declared.point.TheConstants.{COST_LIMIT}
 use Rattle.fan_choice.specs.FirstCheapest.{cheaper, first_cheapest}
 use Rattle.fan_choice.specs.Sharing.{shares}
 use Rattle.fan_choice.proofs.FirstCheapest.{first_cheapest-more}

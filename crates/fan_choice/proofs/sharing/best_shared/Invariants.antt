@@ -1,7 +1,7 @@
 use Rattle.std.proofs.Common.{◌≡◌, ◌<◌, ◌≤◌, ◌-◌, ℕ, drop}
 use Rattle.std.specs.Prelude.{All}
 use Rattle.pareto_front.specs.Front.{IsFront, cheapest}
-use Rattle.fan_choice.specs.declared.choice.TheConstants.{COST_LIMIT}
+use Rattle.pareto_front.specs.declared.point.TheConstants.{COST_LIMIT}
 use Rattle.fan_choice.specs.FirstCheapest.{first_cheapest}
 use Rattle.fan_choice.specs.Sharing.{shares}
 use Rattle.fan_choice.proofs.sharing.best_shared.Given as goal

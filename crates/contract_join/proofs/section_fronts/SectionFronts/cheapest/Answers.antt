@@ -15,5 +15,5 @@ pub returns-clause-below : goal.returns-clause-below
 returns-clause-below c =
     let most : most_beyond c.args.self.now.net ≤ MAX_SECTIONS * MAX_PRICE =
     subst (λ (v : SectionData). most_beyond v.net ≤ MAX_SECTIONS * MAX_PRICE) c.self.view_is
-    (most_beyond-le c.self.inside.net.now c.tell_valid.ensures.tree) in
+    (most_beyond-le c.self.inside.net.now c.network_is_valid.ensures.tree) in
     IfSome_then c.cheapest.result (returns-clause-bounds c) (λ cost low. omega arith)
