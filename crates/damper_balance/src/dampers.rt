@@ -7,8 +7,9 @@ ghost use Rattle.damper_balance.specs.SectionNumbers.{ListsEach};
 ghost use Rattle.damper_balance.specs.Balance.{AreHeads, AreDampers};
 
 use crate::passes::{greatest, head, less_neighbours, path_losses, slacks};
+use duct_definitions::Design;
 use duct_units::{List, NoMemory, Side};
-use net_model::{Design, Network};
+use net_model::Network;
 use std::alloc::Global;
 
 /// How a design shares the fans' pressures. All numbers are in dPa.

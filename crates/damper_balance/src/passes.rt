@@ -10,8 +10,9 @@ ghost use Rattle.duct_definitions.specs.Dampers.{head, slack};
 ghost use Rattle.damper_balance.specs.SectionNumbers.{ListsEach, greatest_at, least_at};
 
 use air_tree::AirTree;
+use duct_definitions::Design;
 use duct_units::{Side, lesser};
-use net_model::{Design, Network, loss_at};
+use net_model::{Network, loss_at};
 
 /// Writes of each section what the sections from it to the fan lose, by the number of its neighbour, which stands
 /// earlier.

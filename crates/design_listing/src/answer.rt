@@ -4,9 +4,10 @@ ghost use Rattle.duct_definitions.specs.Network.{AreFans};
 
 use damper_balance::balance;
 use design_text::{print, print_none};
+use duct_definitions::NetFan;
 use duct_units::{List, NoMemory};
+use net_model::Network;
 use net_model::laws::network_is_valid;
-use net_model::{NetFan, Network};
 use std::alloc::Global;
 use t_method::best_design;
 

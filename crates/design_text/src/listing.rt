@@ -8,9 +8,9 @@ ghost use Rattle.damper_balance.specs.Balance.{AreDampers};
 ghost use Rattle.damper_balance.specs.SectionNumbers.{ListsEach};
 
 use damper_balance::Dampers;
-use duct_definitions::{Listed, ListedFan, ListedSection};
+use duct_definitions::{Design, Listed, ListedFan, ListedSection, NetFan};
 use duct_units::{List, NoMemory};
-use net_model::{Design, NetFan, Network, cost, loss_at, price_at};
+use net_model::{Network, cost, loss_at, price_at};
 use std::alloc::Global;
 
 /// The fields of a design that meets the rules, with its dampers and its cost.

@@ -7,8 +7,9 @@ ghost use Rattle.damper_balance.specs.Balance.{AreDampers};
 use crate::lines::{add_heading, text_of};
 use crate::listing::listed;
 use damper_balance::Dampers;
+use duct_definitions::Design;
 use duct_units::{List, Name, NoMemory};
-use net_model::{Design, Network};
+use net_model::Network;
 use std::alloc::Global;
 use text_lines::Text;
 

@@ -18,7 +18,7 @@ pub fn arguments<R: std::rt::Env + AllocGlobal>(rt: &R) -> io::Result<Vec<String
 }
 
 /// Runs on the arguments and gives the status of the run; where the runtime gave none, nothing is written, and the
-/// status is 6 for want of memory and 7 for another cause.
+/// status is 6 where memory ran out and 7 for another cause.
 pub fn status_of<'w, F: Files<'w>, W: Sink>(
     alloc: Global,
     arguments: &'w io::Result<Vec<String>>,

@@ -4,7 +4,6 @@ ghost use Rattle.duct_units.specs.declared.fault.Reason.TheVariants.{TooLong};
 ghost use Rattle.duct_units.specs.Rules.{file_fault};
 ghost use Rattle.duct_definitions.specs.Designs.{Meets};
 ghost use Rattle.duct_definitions.specs.Balance.{IsBalanced};
-ghost use Rattle.duct_definitions.specs.Network.{IsNetwork};
 ghost use Rattle.duct_definitions.specs.DesignText.{text, listed};
 ghost use Rattle.duct_ports.specs.Faults.{Rose};
 ghost use Rattle.duct_cli.specs.Words.{pick};
@@ -19,9 +18,11 @@ use crate::words::{Command, FileKind};
 use damper_balance::balance;
 use design_laws::dampers_balance_every_path;
 use design_text::{print, print_none};
+use duct_definitions::Design;
 use duct_ports::{Files, TakeError, read_all};
 use duct_units::{Fault, List, NoMemory, ReadError, Reason};
-use net_model::{Design, Network};
+use net_model::Network;
+use net_model::laws::network_is_valid;
 use network_file::read_network;
 use std::alloc::Global;
 use t_method::best_design;
@@ -136,14 +137,7 @@ fn design_text(alloc: Global, net: &Network, d: &Design) -> Result<List<u8>, NoM
     ensures balanced { IsBalanced net.now d.now }
 {
     dampers_balance_every_path();
-    knows_network(net);
+    network_is_valid(net);
     let dampers = balance(alloc, net, d)?;
     print(alloc, net, d, &dampers)
-}
-
-/// Tells a proof that the network is valid.
-fn knows_network(net: &Network)
-    ensures { IsNetwork net.now }
-{
-    let _ = net.tree();
 }

@@ -9,9 +9,10 @@ ghost use Rattle.expand_sizes.specs.Descent.{left_towards};
 
 use crate::sizes::{first_attaining, loss_with};
 use contract_join::SectionFronts;
+use duct_definitions::Design;
 use duct_units::{List, NoMemory, Side};
 use fan_choice::Choice;
-use net_model::{Design, Network};
+use net_model::Network;
 use std::alloc::Global;
 
 /// The best design of the network: the chosen fans, and of each section the first size with the least price.

@@ -13,11 +13,12 @@ ghost use Rattle.contract_join.specs.SectionFronts.{AreFrontsOf};
 ghost use Rattle.expand_sizes.specs.BestChoice.{IsBestChoice};
 
 use contract_join::{SectionFronts, condense_in_turn, side_of};
+use duct_definitions::Design;
 use duct_units::{NoMemory, Side};
 use expand_sizes::expand;
 use expand_sizes::laws::{choice_of_side_fronts_is_best, nothing_priced_is_no_design};
 use fan_choice::{Choice, choose};
-use net_model::{Design, Network};
+use net_model::Network;
 use std::alloc::Global;
 
 /// The best design of the network; None where no design meets the rules.
