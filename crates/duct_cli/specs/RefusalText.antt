@@ -10,9 +10,11 @@ use Rattle.duct_units.specs.Lines.{line}
 use Rattle.duct_cli.specs.declared.words.FileKind.{FileKind}
 use Rattle.duct_cli.specs.declared.words.FileKind.TheVariants.{Network}
 
+-- the word of a kind of file
 abbrev pub file_word : FileKind → List ℕ
 file_word Network = codes "network"
 
+-- the word of what a place counts
 abbrev pub part_word : Part → List ℕ
 part_word part.File = codes "file"
 part_word part.Fan = codes "fan"
@@ -22,6 +24,7 @@ part_word part.Size = codes "size"
 part_word part.Table = codes "table"
 part_word part.Line = codes "line"
 
+-- the word of a reason
 abbrev pub reason_word : Reason → List ℕ
 reason_word reason.TooLong = codes "too-long"
 reason_word reason.Text = codes "text"
@@ -52,12 +55,15 @@ reason_word reason.Pair = codes "pair"
 reason_word reason.Form = codes "form"
 reason_word reason.Unbuilt = codes "unbuilt"
 
+-- the line of a file that is refused
 abbrev pub refusal_line : FileKind → Fault → List ℕ
 refusal_line file fault =
     line (codes "refused") (file_word file ∷ part_word fault.part ∷ decimal fault.place ∷ reason_word fault.reason ∷ [])
 
+-- the line of refused words
 abbrev pub words_line : List ℕ
 words_line = line (codes "refused") (codes "words" ∷ [])
 
+-- the line of a read fault
 abbrev pub fault_line : List ℕ
 fault_line = line (codes "fault") (codes "read" ∷ [])

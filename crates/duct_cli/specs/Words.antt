@@ -29,6 +29,7 @@ pub record NamedFile : Type 0 where
 abbrev pub files_of : Command → List NamedFile
 files_of (pick network) = record { kind = Network; name = network } ∷ []
 
+-- the names of the files of a command, in the order in which they are taken
 abbrev pub names_of : Command → List (List ℕ)
 names_of command = map (λ file. file.name) (files_of command)
 

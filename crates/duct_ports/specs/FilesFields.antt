@@ -2,6 +2,7 @@
 use Rattle.duct_ports.specs.declared.memory_files.MemoryFiles.TheInside.{Inside}
 use Rattle.duct_ports.specs.Memory.{FilesInMemory}
 
+-- what the fields of files in memory stand for
 abbrev pub seen : Inside → FilesInMemory
 seen inside =
     record {

@@ -9,6 +9,7 @@ use Rattle.duct_ports.specs.declared.held.HeldFile.{HeldFile}
 abbrev pub first_named : List HeldFile → List ℕ → Option HeldFile
 first_named files name = find (λ file. bytes_eq file.name name) files
 
+-- some file has the name
 abbrev pub is_held : List HeldFile → List ℕ → Bool
 is_held files name = is_some (first_named files name)
 

@@ -3,6 +3,7 @@ use Rattle.std.specs.Prelude.{◌≤◌, vec_len, vec_capacity}
 use Rattle.duct_ports.specs.declared.memory_sink.MemorySink.TheInside.{Inside}
 use Rattle.duct_ports.specs.Memory.{SinkInMemory}
 
+-- what the fields of a sink in memory stand for
 abbrev pub seen : Inside → SinkInMemory
 seen inside =
     record {
