@@ -3,3 +3,4 @@ pub mod Claims
 pub mod OrderlyLaws
 pub mod Numbers
 pub mod Steps
+pub mod ClaimLaws

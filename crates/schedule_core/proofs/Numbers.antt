@@ -1,15 +1,14 @@
 -- What a section's number says, and how events change it.
-use Rattle.std.proofs.Common.{◌≡◌, ℕ, ◌+◌, ◌-◌, ◌<◌, List, [], ◌++◌, ◌∷◌, length, Bool, true, false, cond, Option, Some, None, refl, ap, sym, ◌∙◌, arith, inl, inr}
-use Rattle.std.proofs.lemmas.Bool.{lt-ltb, eqb-false, eq-eqb, ne_eqb, and_cases, both_ways, cond-true, cond-false, cases_Bool, cases_eq}
-use Rattle.std.specs.Prelude.{◌==◌, ◌&&◌, not, max, count_by, nat_lt}
-use Rattle.std.specs.List.{list_all}
+use Rattle.std.proofs.Common.{◌≡◌, ℕ, ◌+◌, ◌<◌, length, Bool, true, false, cond, Some, refl, ap, sym, ◌∙◌, arith, inl, inr}
+use Rattle.std.proofs.lemmas.Bool.{lt-ltb, eqb-false, eq-eqb, and_cases, both_ways, cond-true, cond-false, cases_Bool, cases_eq}
+use Rattle.std.specs.Prelude.{◌==◌, not, max, count_by, nat_lt}
 use Rattle.duct_definitions.specs.Tree.{Tree, section_count, neighbour, children, is_leaf, is_number}
 use Rattle.duct_definitions.proofs.SectionLists.{child_once}
 use Rattle.schedule_core.specs.declared.events.Event.TheVariants.{Claim, Finish}
 use Rattle.schedule_core.specs.Schedule.{State, at_start, is_in, is_claimed, added}
 use Rattle.schedule_core.specs.CoreFields.{number_of}
 use Rattle.schedule_core.proofs.Membership.{is_in-last, is_in-other, not_in-push, none_counted, all_counted}
-use Rattle.schedule_core.proofs.Claims.{leaf_within, children-leaf, is_claimed-leaf, is_claimed-inner}
+use Rattle.schedule_core.proofs.Claims.{children-leaf, is_claimed-leaf, is_claimed-inner}
 
 -- how many children of s aren't done
 abbrev open_children : Tree → State → ℕ → ℕ

@@ -1,13 +1,13 @@
 -- The schedule is orderly at the start, and every event keeps it so.
-use Rattle.std.proofs.Common.{◌≡◌, ℕ, zero, suc, ◌+◌, ◌<◌, ◌≤◌, List, [], ◌∷◌, ◌++◌, length, take, get_or, Bool, true, false, cond, Some, None, refl, ap, sym, ◌∙◌, arith, inl, inr, subst}
-use Rattle.std.proofs.lemmas.Bool.{both_ways, and_parts, not-true, cases_Bool, cases_lt, cases_eq, cond_both, lt-ltb, and_from}
+use Rattle.std.proofs.Common.{◌≡◌, ℕ, zero, suc, ◌+◌, ◌<◌, ◌≤◌, List, [], ◌∷◌, ◌++◌, length, take, get_or, Bool, true, false, Some, refl, ap, sym, ◌∙◌, arith, inl, inr}
+use Rattle.std.proofs.lemmas.Bool.{both_ways, and_parts, not-true, cases_Bool, cases_lt, cond_both, and_from}
 use Rattle.std.proofs.lemmas.Cmp.{nat_eq_equiv}
 use Rattle.std.proofs.lemmas.List.{length_push, take-append-le, get_or_push}
 use Rattle.std.proofs.Math.ListN.{get_or-append}
 use Rattle.std.proofs.Math.Seq.{take-append_seam}
 use Rattle.std.proofs.lemmas.Map.Keys.{IsDistinct-push, IsDistinct-from_apart}
 use Rattle.std.proofs.lemmas.Option.{slice_get-get_or, slice_get_within, get_or_from_slice_get}
-use Rattle.std.specs.Prelude.{◌==◌, ◌&&◌, not, All, fold, slice_get, IsTrue}
+use Rattle.std.specs.Prelude.{◌==◌, not, All, fold, slice_get, IsTrue}
 use Rattle.std.specs.List.{list_all}
 use Rattle.duct_definitions.specs.Tree.{Tree, IsTree, section_count, neighbour, children, is_leaf, is_number}
 use Rattle.duct_definitions.proofs.SectionLists.{children_later, chosen_below}
@@ -16,7 +16,7 @@ use Rattle.schedule_core.specs.declared.events.Event.TheVariants.{Claim, Finish}
 use Rattle.schedule_core.specs.Schedule.{State, at_start, is_in, is_claimed, accepts, added, after_event, state_after}
 use Rattle.schedule_core.specs.Orderly.{AreDistinct, AreChildrenFirst, EndsWithAll, IsOrderly}
 use Rattle.schedule_core.proofs.Membership.{in-push}
-use Rattle.schedule_core.proofs.Claims.{leaf_within, is_claimed-leaf, is_claimed-inner, claimed_within, children_done}
+use Rattle.schedule_core.proofs.Claims.{is_claimed-leaf, is_claimed-inner, claimed_within, children_done}
 
 -- a test that each element passes
 all_pass : (test : ℕ → Bool) (xs : List ℕ) → All (λ x. test x ≡ true) xs → list_all test xs ≡ true
@@ -103,7 +103,7 @@ pub orderly_added : (t : Tree) (state : State) (event : Event) → IsTree t → 
 orderly_added t state (Claim s) tree orderly accepted = orderly_claimed t state s tree orderly accepted
 orderly_added t state (Finish s) tree orderly accepted = orderly_finished t state s tree orderly accepted
 
-none_twice : AreDistinct []
+pub none_twice : AreDistinct []
 none_twice = IsDistinct-from_apart (λ x y. x == y) [] (λ i j d less within. absurd (omega arith))
 
 pub orderly_start : (t : Tree) → IsTree t → IsOrderly t at_start

@@ -1,20 +1,18 @@
 -- What a step leaves in a core.
-use Rattle.std.proofs.Common.{◌≡◌, ℕ, ◌+◌, ◌-◌, ◌<◌, ◌≤◌, List, [], ◌∷◌, ◌++◌, set, take, drop, length, get_or, Bool, true, false, cond, Option, Some, None, IfSome, refl, ap, sym, ◌∙◌, arith, inl, inr, slice_index, slice_set, subst, replicate}
+use Rattle.std.proofs.Common.{◌≡◌, ℕ, ◌-◌, ◌<◌, ◌≤◌, List, [], ◌∷◌, ◌++◌, set, take, drop, length, get_or, Bool, true, false, cond, Option, Some, None, IfSome, refl, ap, sym, ◌∙◌, arith, inl, inr, slice_index, slice_set, subst, replicate}
 use Rattle.std.proofs.lemmas.Bool.{and_parts, not-true, cases_eq, eq-eqb, ne_eqb}
 use Rattle.std.proofs.lemmas.List.{length-replicate, get_or-replicate, length-set, get_or-set_same, get_or-set_other, length_push}
 use Rattle.std.proofs.Math.Seq.{take-append_seam}
 use Rattle.std.proofs.lemmas.Map.Steps.{length-le_from_distinct_below}
-use Rattle.std.specs.Prelude.{◌==◌, not, slice_index_or}
-use Rattle.std.specs.List.{list_all}
+use Rattle.std.specs.Prelude.{◌==◌, not}
 use Rattle.duct_definitions.specs.Tree.{Tree, IsTree, section_count, neighbour, children, is_leaf, is_number}
 use Rattle.duct_definitions.proofs.TreeLaws.{earlier}
 use Rattle.schedule_core.specs.declared.events.Event.{Event}
 use Rattle.schedule_core.specs.declared.events.Event.TheVariants.{Claim, Finish}
-use Rattle.schedule_core.specs.Schedule.{State, at_start, is_in, is_claimed, accepts, added}
+use Rattle.schedule_core.specs.Schedule.{at_start, is_in, is_claimed, accepts, added}
 use Rattle.schedule_core.specs.Answers.{claimed_neighbour}
-use Rattle.schedule_core.specs.Orderly.{IsOrderly}
 use Rattle.schedule_core.specs.CoreData.{CoreData}
-use Rattle.schedule_core.specs.CoreFields.{AreNumbers, IsCoreOf, number_of, one_less, next_at}
+use Rattle.schedule_core.specs.CoreFields.{AreNumbers, IsCoreOf, one_less, next_at}
 use Rattle.schedule_core.specs.CoreInside.{data_of}
 use Rattle.schedule_core.specs.declared.schedule.Core.TheInside.{Inside}
 use Rattle.schedule_core.proofs.Membership.{is_in-last, is_in-other, none_counted}

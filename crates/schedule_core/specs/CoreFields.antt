@@ -1,5 +1,5 @@
 -- What the numbers and the marks of a core say of its state.
-use Rattle.std.specs.Prelude.{◌≡◌, ℕ, ◌-◌, ◌<◌, List, length, Bool, false, not, ◌==◌, Option, Some, None, slice_index, slice_index_or, slice_set, count_by, if◌then◌else◌}
+use Rattle.std.specs.Prelude.{◌≡◌, ℕ, ◌-◌, ◌<◌, List, length, false, not, ◌==◌, Option, Some, None, slice_index, slice_index_or, slice_set, count_by, if◌then◌else◌}
 use Rattle.duct_definitions.specs.Tree.{Tree, IsTree, section_count, children, is_leaf}
 use Rattle.schedule_core.specs.Schedule.{State, is_in}
 use Rattle.schedule_core.specs.Orderly.{IsOrderly}

@@ -1,6 +1,5 @@
 //! The core, and what an event changes in it.
-ghost use Rattle.std.specs.Prelude.{◌≡◌, ◌<◌, ◌++◌, ◌∷◌, [], length, true, None, Some, IfSome, IfOk, IfErr, OnOk, IsTrue, slice_index};
-ghost use Rattle.std.specs.Vec.{vec_len, vec_capacity};
+ghost use Rattle.std.specs.Prelude.{◌≡◌, ◌<◌, length, None, Some, IfSome, IfOk, IfErr, OnOk, IsTrue, slice_index};
 ghost use Rattle.duct_definitions.specs.Tree.{section_count};
 ghost use Rattle.schedule_core.specs.declared.events.Event.TheVariants.{Claim, Finish};
 ghost use Rattle.schedule_core.specs.Schedule.{at_start, is_claimed, accepts, added, after_event};

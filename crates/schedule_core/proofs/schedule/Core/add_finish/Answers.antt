@@ -1,8 +1,7 @@
-use Rattle.std.proofs.Common.{◌≡◌, ◌∙◌, List, ℕ, ◌++◌, ◌∷◌, [], true, set, ap, subst, sym, arith}
+use Rattle.std.proofs.Common.{◌≡◌, ◌∙◌, ap, sym, arith}
 use Rattle.duct_definitions.specs.Tree.{neighbour}
 use Rattle.schedule_core.specs.declared.events.Event.TheVariants.{Finish}
-use Rattle.schedule_core.specs.CoreData.{CoreData}
-use Rattle.schedule_core.specs.CoreFields.{IsCoreOf, one_less, next_at}
+use Rattle.schedule_core.specs.CoreFields.{one_less}
 use Rattle.schedule_core.specs.CoreInside.{data_of}
 use Rattle.schedule_core.proofs.Steps.{refilled, opened, own_finished, finish_room, neighbour_open, next_finished}
 use Rattle.schedule_core.proofs.schedule.Core.add_finish.Goals as goal

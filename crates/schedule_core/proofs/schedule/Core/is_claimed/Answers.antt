@@ -1,7 +1,6 @@
-use Rattle.std.proofs.Common.{◌≡◌, ◌<◌, length, ap, subst, sym, ◌∙◌, arith}
+use Rattle.std.proofs.Common.{ap, subst, sym, ◌∙◌, arith}
 use Rattle.std.proofs.lemmas.List.{get_or_read}
 use Rattle.std.specs.Prelude.{◌==◌}
-use Rattle.duct_definitions.specs.Tree.{section_count}
 use Rattle.schedule_core.specs.Schedule.{is_claimed}
 use Rattle.schedule_core.specs.CoreData.{CoreData}
 use Rattle.schedule_core.specs.CoreFields.{IsCoreOf}

@@ -1,4 +1,4 @@
-use Rattle.std.proofs.Common.{◌≡◌, ◌∙◌, ap, replicate, false}
+use Rattle.std.proofs.Common.{◌∙◌, ap, replicate, false}
 use Rattle.schedule_core.proofs.Steps.{own_start}
 use Rattle.schedule_core.proofs.schedule.Core.new.Goals as goal
 
