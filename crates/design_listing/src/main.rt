@@ -7,7 +7,8 @@
 mod answer;
 
 use answer::answer_of;
-use duct_ports::{DiskFiles, Files, StdSink, read_all, write_all};
+use duct_ports::{DiskFiles, StdSink, read_all, write_all};
+use duct_units::List;
 use net_model::Network;
 use network_file::read_network;
 use std::env;
@@ -33,19 +34,24 @@ fn status<R: std::rt::Files + Print + std::rt::Env + AllocGlobal>(rt: &R) -> u8 
 
 /// 0 where the answer for the named files was printed, else 1.
 fn printed<R: std::rt::Files + Print + AllocGlobal>(rt: &R, network: &str, fans: &str) -> u8 {
-    let Some(net) = network_at(rt, network) else {
-        return 1;
-    };
-    let Some(other) = network_at(rt, fans) else {
-        return 1;
-    };
-    let Ok(text) = answer_of(rt.alloc(), net, &other) else {
+    let Some(text) = text_for(rt, network, fans) else {
         return 1;
     };
     match write_all(&mut StdSink::new(rt), text.as_slice()) {
         Ok(()) => 0,
         Err(_) => 1,
     }
+}
+
+/// The answer for the named files; None where one is not read or refused, or memory runs out.
+fn text_for<R: std::rt::Files + AllocGlobal>(
+    rt: &R,
+    network: &str,
+    fans: &str,
+) -> Option<List<u8>> {
+    let other = network_at(rt, fans)?;
+    let net = network_at(rt, network)?;
+    answer_of(rt.alloc(), net, &other).ok()
 }
 
 /// The network of a file; None where it is not read or refused.
