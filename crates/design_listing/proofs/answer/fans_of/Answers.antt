@@ -8,7 +8,7 @@ use Rattle.design_listing.proofs.answer.fans_of.Goals as goal
 pub loop-i-preserved : goal.loop-i-preserved
 loop-i-preserved c =
     let fans : List NetFan = c.args.net.now.fans in
-    c.push.ensures.items
+    c.in_ok-push.ensures.items
     ∙ ap (λ (xs : List NetFan). xs ++ c.fan.result ∷ []) c.loop-i.invariant
     ∙ ap (λ (fan : NetFan). take c.loop-i.i fans ++ fan ∷ []) (c.fan.ensures.value ∙ unwrap_or-slice_get fans c.loop-i.i no_fan)
     ∙ sym (take_more fans c.loop-i.i no_fan (omega arith))
