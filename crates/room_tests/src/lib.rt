@@ -8,8 +8,6 @@ mod friction;
 #[cfg(test)]
 mod fronts;
 #[cfg(test)]
-mod schedule;
-#[cfg(test)]
 mod sizes;
 #[cfg(test)]
 mod texts;
