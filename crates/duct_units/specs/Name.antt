@@ -27,12 +27,12 @@ abbrev pub padded : List ℕ → List ℕ
 padded bytes = bytes ++ replicate (MAX_NAME_BYTES - length bytes) 0
 
 -- the first len bytes are a name, and the others are 0
-pub record IsHeld (bytes : List ℕ) (len : ℕ) : Type 0 where
+pub record HoldsName (bytes : List ℕ) (len : ℕ) : Type 0 where
   pub within : len ≤ length bytes
   pub name : IsTrue (is_name (take len bytes))
   pub rest : padded (take len bytes) ≡ bytes
 
 -- a name with its zeros gives all bytes back, and has the stated length
-pub held_again : (bytes : List ℕ) (len : ℕ) → IsHeld bytes len
+pub name_again : (bytes : List ℕ) (len : ℕ) → HoldsName bytes len
     → (padded (take len bytes) ≡ bytes) × (length (take len bytes) ≡ len)
-held_again bytes len held = (held.rest, length-take-le len bytes held.within)
+name_again bytes len held = (held.rest, length-take-le len bytes held.within)

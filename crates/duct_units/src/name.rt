@@ -21,12 +21,12 @@ impl Model for Name {
 
     ghost Value = { List ℕ };
 
-    ghost use Rattle.duct_units.specs.Name.{IsHeld};
+    ghost use Rattle.duct_units.specs.Name.{HoldsName};
     ghost use Rattle.duct_units.specs.NameFields.{fields_of, fields_again};
 
     ghost view = { λ name. take name.len name.bytes };
 
-    ghost invariant = { λ name. IsHeld name.bytes name.len };
+    ghost invariant = { λ name. HoldsName name.bytes name.len };
 
     ghost inverse = { fields_of };
 
