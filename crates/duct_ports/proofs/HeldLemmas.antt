@@ -9,7 +9,7 @@ use Rattle.std.proofs.lemmas.Option.{slice_get_past, slice_get_cases}
 use Rattle.std.proofs.lemmas.List.Folds.{find_at}
 use Rattle.std.proofs.lemmas.List.{take-append-drop, drop-drop, take_at}
 use Rattle.duct_ports.specs.declared.held.HeldFile.{HeldFile}
-use Rattle.duct_ports.specs.Held.{bytes_from, contents_of}
+use Rattle.duct_ports.specs.NamedFiles.{bytes_from, contents_of}
 
 slice_get-at : {X : Type 0} (xs : List X) (n : ℕ) (b : Bool) → nat_lt n (length xs) ≡ b
     → slice_get xs (unwrap_or (cond b (Some n) None) (length xs)) ≡ slice_get xs n
@@ -49,14 +49,14 @@ named_place files name place is =
     ap (λ p. bytes_from files (unwrap_or p (length files), 0)) is
     ∙ ap (λ file. option_map_or (λ f. f.bytes) file []) first
 
--- after n more bytes of a file were read into the front of a buffer
+-- after n more bytes of a file were read into the beginning of a buffer
 pub reads_more : (files : List HeldFile) (i at n : ℕ) (left moved after : List ℕ)
     → left ≡ bytes_from files (i, at) → moved ≡ take n left → n ≤ length left
     → left ≡ take n (moved ++ after) ++ bytes_from files (i, at + n)
-reads_more files i at n left moved after is front within =
+reads_more files i at n left moved after is prefix within =
     let bytes : List ℕ = option_map_or (λ file. file.bytes) (slice_get files i) [] in
-    let whole : length moved ≡ n = ap length front ∙ length-take-le n left within in
-    let head : take n (moved ++ after) ≡ take n left = take_at moved after n whole ∙ front in
+    let whole : length moved ≡ n = ap length prefix ∙ length-take-le n left within in
+    let head : take n (moved ++ after) ≡ take n left = take_at moved after n whole ∙ prefix in
     let tail : drop n left ≡ bytes_from files (i, at + n) = ap (drop n) is ∙ drop-drop n at bytes in
     sym (take-append-drop n left)
     ∙ ap (λ rest. take n left ++ rest) tail

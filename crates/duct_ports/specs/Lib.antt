@@ -1,7 +1,7 @@
 pub mod Faults
 pub mod Reading
 pub mod Writing
-pub mod Held
+pub mod NamedFiles
 pub mod OpenedPlace
 pub mod Memory
 pub mod FilesFields

@@ -13,7 +13,7 @@ use Rattle.std.specs.List.{list_any}
 use Rattle.duct_ports.specs.declared.held.HeldFile.{HeldFile}
 use Rattle.duct_ports.specs.Reading.{Contents}
 use Rattle.duct_ports.specs.Faults.{one_more}
-use Rattle.duct_ports.specs.Held.{is_held, contents_of, rest_of}
+use Rattle.duct_ports.specs.NamedFiles.{is_held, contents_of, rest_of}
 
 -- how many calls were made, and the numbers of those that fail
 pub record Numbered : Type 0 where

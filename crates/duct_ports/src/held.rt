@@ -1,7 +1,7 @@
 //! Files that are held in memory, of which one is read at a time.
 ghost use Rattle.std.specs.Prelude.{◌≡◌, ◌<◌, ◌+◌, ◌++◌, ◌^◌, Some, None, length, take, min, is_some, position};
 ghost use Rattle.std.specs.Str.{bytes_eq};
-ghost use Rattle.duct_ports.specs.Held.{is_held, contents_of, rest_of, bytes_from};
+ghost use Rattle.duct_ports.specs.NamedFiles.{is_held, contents_of, rest_of, bytes_from};
 
 use duct_units::List;
 use std::marker::Model;
@@ -24,7 +24,7 @@ pub struct HeldFiles {
 }
 
 impl Model for HeldFiles {
-    ghost use Rattle.duct_ports.specs.Held.{Opened};
+    ghost use Rattle.duct_ports.specs.NamedFiles.{Opened};
 
     ghost Value = { Opened };
 

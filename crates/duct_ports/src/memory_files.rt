@@ -67,7 +67,7 @@ impl<'w> MemoryFiles<'w> {
 }
 
 impl<'w> Files<'w> for MemoryFiles<'w> {
-    ghost use Rattle.duct_ports.specs.Held.{rest_of-none};
+    ghost use Rattle.duct_ports.specs.NamedFiles.{rest_of-none};
     ghost use Rattle.duct_ports.specs.Memory.{held_by, left_of, is_started};
     ghost use Rattle.duct_ports.specs.Memory.{can_start, can_read, count_moved};
     ghost use Rattle.duct_ports.specs.Memory.{after_call, calls_after_read};

@@ -15,7 +15,7 @@ pub struct SureFiles<'w> {
 }
 
 impl<'w> SureFiles<'w> {
-    ghost use Rattle.duct_ports.specs.Held.{contents_of};
+    ghost use Rattle.duct_ports.specs.NamedFiles.{contents_of};
 
     /// These files; none is started.
     pub fn new(files: List<HeldFile>) -> SureFiles<'w>
@@ -31,7 +31,7 @@ impl<'w> SureFiles<'w> {
 }
 
 impl<'w> Files<'w> for SureFiles<'w> {
-    ghost use Rattle.duct_ports.specs.Held.{contents_of, rest_of, rest_of-none};
+    ghost use Rattle.duct_ports.specs.NamedFiles.{contents_of, rest_of, rest_of-none};
 
     ghost asked = { λ files. files.asked };
 
