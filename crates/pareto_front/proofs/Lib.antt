@@ -1,5 +1,6 @@
 pub mod Among
 pub mod Bounds
+pub mod CheaperLaws
 pub mod Costs
 pub mod Cuts
 pub mod Even
@@ -13,6 +14,9 @@ pub mod Order
 pub mod Points
 pub mod Prices
 pub mod PricesByNeed
+pub mod PricesLaid
+pub mod PricesScanned
+pub mod PricesTaken
 pub mod ReadOn
 pub mod Same
 pub mod Shifts

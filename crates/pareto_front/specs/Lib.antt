@@ -1,3 +1,4 @@
+pub mod Cheaper
 pub mod Front
 pub mod FrontSum
 pub mod LaidPoints

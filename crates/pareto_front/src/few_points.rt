@@ -4,7 +4,7 @@ ghost use Rattle.pareto_front.specs.Front.{IsFront, NeedsWithin, cheapest};
 ghost use Rattle.pareto_front.specs.LaidPoints.{least_among};
 ghost use Rattle.pareto_front.specs.InOrder.{IsInOrder};
 
-use crate::parts::cheaper_point;
+use crate::parts::push_cheaper;
 use crate::point::Point;
 use duct_units::NoMemory;
 
@@ -36,10 +36,7 @@ fn keep_cheaper(sorted: &[Point], kept: &mut Vec<Point>) -> Result<(), NoMemory>
         IfOk result (λ _. NeedsWithin cap kept.new.items) }
 {
     for point in sorted {
-        let Some(point) = cheaper_point(kept.as_slice(), point.need, Some(point.cost)) else {
-            continue;
-        };
-        kept.push(point)?;
+        push_cheaper(kept, point.need, Some(point.cost))?;
     }
     Ok(())
 }

@@ -5,7 +5,7 @@ ghost use Rattle.duct_units.specs.Prices.{lesser, both_of};
 ghost use Rattle.pareto_front.specs.Front.{IsFront, cheapest};
 ghost use Rattle.pareto_front.specs.Sweep.{cost_of, lesser_offer, sum_offer};
 
-use crate::parts::cheaper_point;
+use crate::parts::push_cheaper;
 use crate::point::Point;
 use crate::sweep::{Step, Sweep};
 use duct_units::{NoMemory, lesser};
@@ -22,10 +22,7 @@ pub(crate) fn either_points(alloc: Global, a: &[Point], b: &[Point]) -> Result<V
     let mut points = Vec::with_capacity(alloc, a.len() + b.len())?;
     let mut sweep = Sweep::start(a, b);
     while let Some(step) = sweep.next() {
-        let Some(point) = cheaper_point(points.as_slice(), step.need, lesser_cost(step)) else {
-            continue;
-        };
-        points.push(point)?;
+        push_cheaper(&mut points, step.need, lesser_cost(step))?;
     }
     Ok(points)
 }

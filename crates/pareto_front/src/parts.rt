@@ -1,7 +1,7 @@
-//! Parts of a front: those within a need, its last cost, its points moved, and the next point that is cheaper.
-ghost use Rattle.std.specs.Prelude.{◌≡◌, ℕ, ◌+◌, ◌<◌, ◌≤◌, ◌^◌, ◌++◌, All, IfOk, IfSome, IfNone, Some, length, map, take};
-ghost use Rattle.std.specs.Option.{ForSome};
-ghost use Rattle.pareto_front.specs.Front.{IsFront, CostsNoMore, NeedsWithin, cheapest, moved_by};
+//! Parts of a front: those within a need, its last cost, its points moved, and one point more that is cheaper.
+ghost use Rattle.std.specs.Prelude.{◌≡◌, ℕ, ◌+◌, ◌<◌, ◌≤◌, ◌^◌, ◌++◌, All, IfOk, length, map, take};
+ghost use Rattle.pareto_front.specs.Cheaper.{with_cheaper};
+ghost use Rattle.pareto_front.specs.Front.{IsFront, NeedsWithin, cheapest, moved_by};
 ghost use Rattle.pareto_front.specs.Sweep.{last_cost};
 
 use crate::point::Point;
@@ -67,17 +67,19 @@ pub(crate) fn push_moved(
     Ok(())
 }
 
-/// The point of the price at the need, dPa, where it is below the last cost so far, cents.
-pub(crate) fn cheaper_point(points: &[Point], need: u64, price: Option<u64>) -> Option<Point>
-    ensures need { IfSome result (λ point. point.need ≡ need) }
-    ensures cost { IfSome result (λ point. price ≡ Some point.cost) }
-    ensures less { IfSome result
-        (λ point. ForSome (last_cost points.now) (λ last. point.cost < last)) }
-    ensures none { IfNone result (CostsNoMore (last_cost points.now) price) }
+/// Puts the point of the price, cents, at the need, dPa, at the end, where it is below the last cost so far.
+pub(crate) fn push_cheaper(
+    points: &mut Vec<Point>,
+    need: u64,
+    price: Option<u64>,
+) -> Result<(), NoMemory>
+    ensures { IfOk result (λ _. points.new.items ≡ with_cheaper need price points.old.items) }
 {
-    let cost = price?;
+    let Some(cost) = price else {
+        return Ok(());
+    };
     match points.last() {
-        Some(last) if last.cost <= cost => None,
-        _ => Some(Point { need, cost }),
+        Some(last) if last.cost <= cost => Ok(()),
+        _ => Ok(points.push(Point { need, cost })?),
     }
 }

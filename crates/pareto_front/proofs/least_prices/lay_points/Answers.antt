@@ -1,5 +1,5 @@
 use Rattle.std.proofs.Common.{arith}
-use Rattle.pareto_front.proofs.PricesByNeed.{IsLaidTo-start, IsLaidTo-next, IsLaidTo-all}
+use Rattle.pareto_front.proofs.PricesLaid.{IsLaidTo-start, IsLaidTo-next, IsLaidTo-all}
 use Rattle.pareto_front.proofs.least_prices.lay_points.Goals as goal
 
 pub loop-point-init : goal.loop-point-init

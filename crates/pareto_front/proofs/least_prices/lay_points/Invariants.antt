@@ -1,4 +1,4 @@
-use Rattle.pareto_front.proofs.PricesByNeed.{IsLaidTo}
+use Rattle.pareto_front.proofs.PricesLaid.{IsLaidTo}
 use Rattle.pareto_front.proofs.least_prices.lay_points.Given as goal
 
 abbrev pub invariant-loop-point : goal.invariant-loop-point

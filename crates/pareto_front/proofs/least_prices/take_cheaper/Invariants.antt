@@ -1,5 +1,6 @@
 use Rattle.std.proofs.Common.{◌≤◌, max}
-use Rattle.pareto_front.proofs.PricesByNeed.{IsScannedTo, IsTakenTo}
+use Rattle.pareto_front.proofs.PricesScanned.{IsScannedTo}
+use Rattle.pareto_front.proofs.PricesTaken.{IsTakenTo}
 use Rattle.pareto_front.proofs.least_prices.take_cheaper.Given as goal
 
 abbrev pub invariant-loop-need : goal.invariant-loop-need

@@ -1,7 +1,8 @@
 use Rattle.std.proofs.Common.{◌≡◌, ◌<◌, ◌+◌, ◌∙◌, arith, ap, sym, subst, length, take, drop, min}
 use Rattle.std.specs.Prelude.{All}
 use Rattle.pareto_front.specs.LeastPrices.{AreBetween}
-use Rattle.pareto_front.proofs.PricesByNeed.{written, AreBetween-laid}
+use Rattle.pareto_front.proofs.PricesByNeed.{written}
+use Rattle.pareto_front.proofs.PricesLaid.{AreBetween-laid}
 use Rattle.pareto_front.proofs.least_prices.LeastPrices.lay.Goals as goal
 
 pub invariant_of-self : goal.invariant_of-self
