@@ -9,13 +9,14 @@ use Rattle.std.proofs.lemmas.Option.{slice_get_within}
 use Rattle.pareto_front.specs.declared.point.Point.{Point}
 use Rattle.pareto_front.specs.Front.{NeedsWithin, CostsWithin, cheapest}
 use Rattle.pareto_front.specs.FrontSum.{greatest_together, IsTotal}
+use Rattle.duct_definitions.specs.declared.limits.TheConstants.{MAX_SECTIONS}
 use Rattle.duct_definitions.specs.Tree.{section_count, children}
 use Rattle.duct_definitions.specs.Network.{Network, IsNetwork, size_count, columns, cap}
 use Rattle.duct_units.proofs.PriceLaws.{both_of-zero}
 use Rattle.least_laws.specs.Prices.{sum_of}
 use Rattle.least_laws.specs.LeastFromChildren.{least_in}
 use Rattle.least_laws.proofs.Leasts.{least_in-unique}
-use Rattle.contract_join.specs.SectionFronts.{AreExact, front_of, most_beyond}
+use Rattle.contract_join.specs.SectionFronts.{SectionData, AreExact, front_of, most_beyond}
 use Rattle.contract_join.specs.Join.{AreSumOf, AddsSection, IsAdding, AddsChild, HaveRoom, AreTotals, AreSums}
 use Rattle.contract_join.proofs.Adding.{take-none, AreSumOf-none, AreSumOf-next, IsSumOf, IsSumOf-total, child-columns}
 use Rattle.contract_join.proofs.Closing.{children-few, front_of-left, front_of-last}
@@ -201,3 +202,29 @@ AreSums-only net valid s c in_range only fronts exact = record {
 } where
   sizes : columns net c ≡ size_count net s
   sizes = child-columns net s 0 c (ap (λ (l : List ℕ). slice_get l 0) only)
+
+-- a join's sums, and the next child
+pub record TakesChild (net : Network) (s added : ℕ) (sums : List (List (List Point))) (child : SectionData) : Type 0 where
+  pub adding : IsAdding net s added sums
+  pub next : slice_get (children net.tree s) added ≡ Some child.section
+  pub same_net : child.net ≡ net
+
+module _ (net : Network) (s added : ℕ) (sums : List (List (List Point))) (child : SectionData) (takes : TakesChild net s added sums child) where
+  pub next-beside : length sums ≡ columns child.net child.section
+  next-beside =
+      takes.adding.count ∙ sym (child-columns net s added child.section takes.next)
+      ∙ ap (λ (n : Network). columns n child.section) (sym takes.same_net)
+
+  pub next-room : HaveRoom child.net sums
+  next-room = subst (λ (n : Network). HaveRoom n sums) (sym takes.same_net) (HaveRoom-next net s added child.section sums takes.adding takes.next)
+
+  pub next-few : added < MAX_SECTIONS
+  next-few =
+      let within = slice_get_within (children net.tree s) added child.section takes.next in
+      let few = children-few net.tree s takes.adding.network.tree in
+      omega arith
+
+  pub next-added : (new : List (List (List Point))) → AddsChild child.net child.section sums new → IsAdding net s (added + 1) new
+  next-added new adds =
+      IsAdding-next net s added child.section sums new takes.adding takes.next
+      (subst (λ (n : Network). AddsChild n child.section sums new) takes.same_net adds)

@@ -14,13 +14,11 @@ use Rattle.duct_definitions.specs.Tree.{Tree, IsTree, section_count, sections, c
 use Rattle.duct_definitions.specs.Network.{Network, IsNetwork, IsBounded, size_count, columns, pair_at, cap}
 use Rattle.least_laws.specs.Least.{IsLeast}
 use Rattle.duct_definitions.proofs.TreeLaws.{few_sections}
-use Rattle.duct_units.specs.Prices.{lesser, both_of}
-use Rattle.duct_units.proofs.PriceLaws.{lesser-none}
+use Rattle.duct_units.specs.Prices.{both_of}
 use Rattle.least_laws.specs.Prices.{least_below, sum_of, with_pair}
 use Rattle.least_laws.specs.LeastFromChildren.{least_in, least_with, IsExact}
 use Rattle.least_laws.proofs.Bounds.{least_bounded}
 use Rattle.least_laws.proofs.Leasts.{least_in-is, least_in-step}
-use Rattle.least_laws.proofs.SumOf.{least_below-next}
 use Rattle.contract_join.specs.SectionFronts.{front_of, most_beyond, AreExact}
 use Rattle.contract_join.specs.Join.{AreSums}
 use Rattle.contract_join.proofs.Fronts.{All-front_of, front_of-get_or, times-most_beyond}
@@ -70,26 +68,18 @@ module _ (net : Network) (valid : IsNetwork net) (s : ℕ) (sums : List (List Po
         (λ point low. omega arith)
         (front_of sums k) (All-front_of (CostsWithin (length (children net.tree s) * most_beyond net)) sums k are_sums.costs within)
 
-    -- one more size that can be joined
-    pub least-next : (g budget : ℕ) (pair : Pair) → pair_at net s k g ≡ Some pair → budget ≤ cap net
-        → lesser (least_below (least_with net (least_in net) s g budget) k) (shifted (front_of sums k) pair.loss pair.price budget)
-        ≡ least_below (least_with net (least_in net) s g budget) (k + 1)
-    least-next g budget pair is in_cap =
-        ap (lesser (least_below (least_with net (least_in net) s g budget) k))
-        (shifted-with_pair pair (front_of sums k) budget
+    -- a size that can be joined
+    pub least-joined : (g budget : ℕ) (pair : Pair) → pair_at net s k g ≡ Some pair → budget ≤ cap net
+        → shifted (front_of sums k) pair.loss pair.price budget ≡ least_with net (least_in net) s g budget k
+    least-joined g budget pair is in_cap =
+        shifted-with_pair pair (front_of sums k) budget
         ∙ with_pair-same pair budget (cheapest (front_of sums k)) (λ rest. sum_of (λ c. least_in net c k rest) (children net.tree s))
         (λ rest low. are_sums.value k rest less (omega arith))
-        ∙ ap (λ o. with_pair o budget (λ rest. sum_of (λ c. least_in net c k rest) (children net.tree s))) (sym is))
-        ∙ sym (least_below-next (least_with net (least_in net) s g budget) k)
+        ∙ ap (λ o. with_pair o budget (λ rest. sum_of (λ c. least_in net c k rest) (children net.tree s))) (sym is)
 
     -- and one that can't
-    pub least-none : (g budget : ℕ) → pair_at net s k g ≡ None
-        → least_below (least_with net (least_in net) s g budget) k ≡ least_below (least_with net (least_in net) s g budget) (k + 1)
-    least-none g budget none =
-        sym (lesser-none (least_below (least_with net (least_in net) s g budget) k))
-        ∙ ap (lesser (least_below (least_with net (least_in net) s g budget) k))
-        (sym (ap (λ o. with_pair o budget (λ rest. sum_of (λ c. least_in net c k rest) (children net.tree s))) none))
-        ∙ sym (least_below-next (least_with net (least_in net) s g budget) k)
+    pub least-unjoined : (g budget : ℕ) → pair_at net s k g ≡ None → least_with net (least_in net) s g budget k ≡ None
+    least-unjoined g budget none = ap (λ o. with_pair o budget (λ rest. sum_of (λ c. least_in net c k rest) (children net.tree s))) none
 
   pub least-all : (g budget : ℕ) → g < columns net s
       → least_below (least_with net (least_in net) s g budget) (size_count net s) ≡ least_in net s g budget

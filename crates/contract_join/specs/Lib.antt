@@ -1,3 +1,4 @@
 pub mod SectionFronts
 pub mod Join
 pub mod Condensing
+pub mod Outcomes

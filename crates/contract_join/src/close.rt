@@ -1,7 +1,8 @@
 //! The fronts of a section, from the sums of its children's fronts.
 ghost use Rattle.std.specs.Prelude.{◌≡◌, ℕ, ◌<◌, ◌≤◌, [], IfOk};
-ghost use Rattle.duct_definitions.specs.Network.{columns, cap};
-ghost use Rattle.least_laws.specs.LeastFromChildren.{least_in};
+ghost use Rattle.duct_units.specs.Prices.{lesser};
+ghost use Rattle.duct_definitions.specs.Network.{size_count, columns, cap};
+ghost use Rattle.least_laws.specs.LeastFromChildren.{least_in, least_with};
 ghost use Rattle.pareto_front.specs.LaidPoints.{least_among};
 ghost use Rattle.contract_join.specs.SectionFronts.{AreExact};
 ghost use Rattle.contract_join.specs.Join.{AreSums};
@@ -56,9 +57,32 @@ fn lay_sizes(
     ensures cap { IfOk result (λ _. laid.new.cap ≡ cap net.now) }
 {
     for k in 0..net.size_count(s) {
-        if let Some(pair) = net.pair(s, k, g) {
-            laid.lay(&sums[k as usize], pair.loss, pair.price)?;
-        }
+        lay_size(laid, net, s, g, k, sums)?;
     }
     Ok(())
+}
+
+/// Lays the points of size `k` of section `s`, if it can be joined to size `g` of its neighbour.
+fn lay_size(
+    laid: &mut LaidPoints,
+    net: &Network,
+    s: u32,
+    g: u32,
+    k: u32,
+    sums: &[Front],
+) -> Result<(), NoMemory>
+    requires cap { laid.old.cap ≡ cap net.now }
+    requires beside { g < columns net.now s }
+    requires size { k < size_count net.now s }
+    requires sums { AreSums net.now s sums.now }
+    ensures least { IfOk result (λ _. (budget : ℕ) → budget ≤ cap net.now →
+        least_among laid.new.points budget ≡
+        lesser (least_among laid.old.points budget)
+        (least_with net.now (least_in net.now) s g budget k)) }
+    ensures cap { laid.new.cap ≡ laid.old.cap }
+{
+    match net.pair(s, k, g) {
+        Some(pair) => laid.lay(&sums[k as usize], pair.loss, pair.price),
+        None => Ok(()),
+    }
 }

@@ -7,10 +7,12 @@
 mod close;
 mod condense;
 mod join;
+mod outcome;
 mod section_fronts;
 mod side;
 
 pub use condense::condense_in_turn;
 pub use join::Join;
+pub use outcome::Outcome;
 pub use section_fronts::SectionFronts;
 pub use side::side_of;

@@ -1,15 +1,18 @@
 //! The front of a whole side of the fan.
-ghost use Rattle.std.specs.Prelude.{◌≡◌, ℕ, ◌*◌, ◌<◌, ◌≤◌, ◌^◌, All, IfOk, length};
-ghost use Rattle.duct_definitions.specs.Tree.{roots};
+ghost use Rattle.std.specs.Prelude.{◌≡◌, ℕ, ◌*◌, ◌<◌, ◌≤◌, ◌^◌, All, IfOk, None, length};
+ghost use Rattle.duct_definitions.specs.declared.limits.TheConstants.{MAX_SECTIONS};
+ghost use Rattle.duct_definitions.specs.Tree.{section_count, neighbour, roots};
 ghost use Rattle.duct_definitions.specs.Network.{cap};
 ghost use Rattle.least_laws.specs.Choosing.{side_least};
 ghost use Rattle.pareto_front.specs.Front.{NeedsWithin, CostsWithin, cheapest};
 ghost use Rattle.contract_join.specs.SectionFronts.{AreFrontsOf, most_beyond};
+ghost use Rattle.contract_join.specs.Join.{AreSumOf, AddsSection, HasRoom};
 ghost use Rattle.pareto_front.specs.declared.point.TheConstants.{COST_LIMIT};
 
 use crate::section_fronts::SectionFronts;
 use duct_units::{NoMemory, Side};
 use net_model::Network;
+use net_model::laws::network_is_valid;
 use pareto_front::{Front, FrontSum};
 use std::alloc::Global;
 
@@ -29,9 +32,45 @@ pub fn side_of(
         (CostsWithin (length (roots net.now.tree side) * most_beyond net.now)) }
     ensures below { IfOk result (All (λ point. point.cost < COST_LIMIT)) }
 {
-    let mut sum = FrontSum::new(alloc);
-    for root in net.tree().roots(side) {
-        sum.add(alloc, fronts[*root as usize].front(0))?;
-    }
+    let sum = sum_of_roots(alloc, net, fronts, net.tree().roots(side))?;
     sum.total(alloc)
+}
+
+/// What these sections at the fan cost together, each with all beyond it.
+fn sum_of_roots(
+    alloc: Global,
+    net: &Network,
+    fronts: &[SectionFronts],
+    sections: &[u32],
+) -> Result<FrontSum, NoMemory>
+    requires fronts { AreFrontsOf net.now fronts.now }
+    requires few { length sections.now ≤ MAX_SECTIONS }
+    requires in_range { All (λ s. s < section_count net.now.tree) sections.now }
+    requires at_fan { All (λ s. neighbour net.now.tree s ≡ None) sections.now }
+    ensures { IfOk result (AreSumOf net.now 0 sections.now) }
+{
+    network_is_valid(net);
+    let mut sum = FrontSum::new(alloc);
+    for s in sections {
+        add_root(alloc, &mut sum, net, *s, fronts)?;
+    }
+    Ok(sum)
+}
+
+/// Adds section `s`, which stands at the fan, with all beyond it.
+fn add_root(
+    alloc: Global,
+    sum: &mut FrontSum,
+    net: &Network,
+    s: u32,
+    fronts: &[SectionFronts],
+) -> Result<(), NoMemory>
+    requires fronts { AreFrontsOf net.now fronts.now }
+    requires in_range { s < section_count net.now.tree }
+    requires at_fan { neighbour net.now.tree s ≡ None }
+    requires room { HasRoom net.now sum.old }
+    ensures { IfOk result (λ _. AddsSection net.now s 0 sum.old sum.new) }
+{
+    network_is_valid(net);
+    sum.add(alloc, fronts[s as usize].front(0))
 }
