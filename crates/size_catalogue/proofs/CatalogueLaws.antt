@@ -51,6 +51,14 @@ lists_once name lists once =
       | false ↦ λ absent. EachOnce-push lists name once (not_among name lists absent)
     ] refl
 
+-- every list but that of the row was there before
+older : (found : Option ℕ) (name : List ℕ) (lists : List (List ℕ)) (j : ℕ) → j < length (cond (is_some found) lists (lists ++ name ∷ [])) → (unwrap_or found (length lists) == j) ≡ false → j < length lists
+older None name lists j less other = before (length lists) j (omega (arith, length-append lists (name ∷ []))) other
+  where
+    before : (n j : ℕ) → j < n + 1 → (n == j) ≡ false → j < n
+    before n j less other = grind (arith, nat_tests)
+older (Some p) name lists j less other = less
+
 -- ---- one more size
 
 length-with_number : (same : Bool) (numbers : List ℕ) (n most : ℕ) → length numbers ≤ most → (same ≡ true → length numbers < most) → length (with_number same numbers n) ≤ most
@@ -62,6 +70,16 @@ sizes_fit : (sizes : List Size) (last : Size) → ((j : ℕ) → length (numbers
 sizes_fit sizes last each room j =
     subst (λ (ns : List ℕ). length ns ≤ MAX_LIST_SIZES) (sym (numbers_of-push j sizes last))
     (length-with_number (last.list == j) (numbers_of j sizes) (length sizes) MAX_LIST_SIZES (each j) (λ same. subst (λ (i : ℕ). length (numbers_of i sizes) < MAX_LIST_SIZES) (eqb-true last.list j same) room))
+
+used : (same : Bool) (numbers : List ℕ) (n : ℕ) → (same ≡ false → 0 < length numbers) → 0 < length (with_number same numbers n)
+used true numbers n others = omega (arith, length-append numbers (n ∷ []))
+used false numbers n others = others refl
+
+-- each list has a size, also with one more
+lists_used : (lists grown : List (List ℕ)) (sizes : List Size) (last : Size) → ((j : ℕ) → j < length lists → 0 < length (numbers_of j sizes)) → ((j : ℕ) → j < length grown → (last.list == j) ≡ false → j < length lists)
+    → (j : ℕ) → j < length grown → 0 < length (numbers_of j (sizes ++ last ∷ []))
+lists_used lists grown sizes last each older j less =
+    subst (λ (ns : List ℕ). 0 < length ns) (sym (numbers_of-push j sizes last)) (used (last.list == j) (numbers_of j sizes) (length sizes) (λ other. each j (older j less other)))
 
 pub size_in_bounds : (j : ℕ) (row : SizeRow) → IsRowInBounds row → IsSize (size_in_list j row)
 size_in_bounds j row is = record { name = is.name; area = is.area; height = is.height; metre = is.metre; join = is.join; step = is.step }
@@ -82,6 +100,7 @@ IsCatalogue-with_size catalogue row is bounds new few_lists room =
     record {
       lists_fit = few_lists;
       sizes_fit = sizes_fit catalogue.sizes (size_in_list j row) is.sizes_fit room;
+      lists_used = lists_used catalogue.lists lists catalogue.sizes (size_in_list j row) is.lists_used (older (place_of row.list catalogue.lists) row.list catalogue.lists);
       in_lists = All-push (λ size. size.list < length lists) catalogue.sizes (size_in_list j row)
           (All-weaker (λ size. size.list < length catalogue.lists) (λ size. size.list < length lists) (λ size less. omega (arith, wide.most)) catalogue.sizes is.in_lists) wide.there;
       bounds = All-push IsSize catalogue.sizes (size_in_list j row) is.bounds (size_in_bounds j row bounds);

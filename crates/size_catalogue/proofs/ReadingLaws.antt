@@ -20,6 +20,7 @@ pub no_sizes : IsCatalogue (record { lists = []; sizes = [] })
 no_sizes = record {
   lists_fit = omega arith;
   sizes_fit = λ j. omega arith;
+  lists_used = λ j less. absurd (omega arith);
   in_lists = All-nil (λ (size : Size). _);
   bounds = All-nil IsSize;
   lists_once = λ i name e. cc e;

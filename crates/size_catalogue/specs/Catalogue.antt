@@ -70,10 +70,11 @@ pub record IsSize (size : Size) : Type 0 where
   pub join : size.join ≤ MAX_JOIN_PRICE
   pub step : size.step ≤ MAX_JOIN_PRICE
 
--- at most 16 lists of at most 24 sizes, each size in a list and in bounds, and no name given twice
+-- at most 16 lists of at most 24 sizes, each list with a size, each size in a list and in bounds, and no name given twice
 pub record IsCatalogue (catalogue : Catalogue) : Type 0 where
   pub lists_fit : length catalogue.lists ≤ MAX_LISTS
   pub sizes_fit : (j : ℕ) → length (numbers_of j catalogue.sizes) ≤ MAX_LIST_SIZES
+  pub lists_used : (j : ℕ) → j < length catalogue.lists → 0 < length (numbers_of j catalogue.sizes)
   pub in_lists : All (λ size. size.list < length catalogue.lists) catalogue.sizes
   pub bounds : All IsSize catalogue.sizes
   pub lists_once : EachOnce catalogue.lists

@@ -11,7 +11,7 @@ mod reading;
 mod row;
 mod sizes;
 
-pub use laws::limits_as_numbers;
+pub use laws::{limits_as_numbers, sizes_are_a_catalogue};
 pub use limits::{
     COLUMNS, MAX_AREA, MAX_HEIGHT, MAX_JOIN_PRICE, MAX_LIST_SIZES, MAX_LISTS, MAX_METRE_PRICE,
     MIN_AREA, MIN_HEIGHT,

@@ -1,6 +1,6 @@
 use Rattle.std.proofs.Common.{◌≡◌, true, false, Some, Contains, subst}
 use Rattle.size_catalogue.specs.Catalogue.{Catalogue}
-use Rattle.size_catalogue.proofs.PlaceLaws.{no_place}
+use Rattle.name_index.proofs.PlaceLaws.{no_place}
 use Rattle.size_catalogue.proofs.sizes.Sizes.list.Goals as goal
 
 pub returns-clause-none : goal.returns-clause-none

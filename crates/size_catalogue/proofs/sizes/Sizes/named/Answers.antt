@@ -5,7 +5,7 @@ use Rattle.name_index.specs.Places.{place_of}
 use Rattle.size_catalogue.specs.Catalogue.{Catalogue, names_of}
 use Rattle.size_catalogue.specs.CatalogueIndex.{catalogue_of}
 use Rattle.size_catalogue.proofs.CatalogueLaws.{few}
-use Rattle.size_catalogue.proofs.PlaceLaws.{no_place}
+use Rattle.name_index.proofs.PlaceLaws.{no_place}
 use Rattle.size_catalogue.proofs.sizes.Sizes.named.Goals as goal
 
 pub overflow_cast-result : goal.overflow_cast-result
