@@ -4,8 +4,10 @@
 --   rate_at flow rows           the rate at the airflow as an exact fraction; none above the last row
 --   IsLossOver length rate      the least whole number of dPa that the length loses at the rate
 --   IsFrictionLoss              the same at the rate of an airflow
+--   friction_loss               that number; none above the last row
 --   Loses rate length dpa       at a whole rate a length loses this, and nothing else
-use Rattle.std.specs.Prelude.{◌≡◌, ◌↔◌, ℕ, ◌+◌, ◌-◌, ◌*◌, ◌<◌, ◌≤◌, ◌==◌, slice_get, nat_le, List, [], ◌∷◌, Option, Some, None, find, pos, All, IsSomeAnd, if◌then◌else◌}
+use Rattle.std.specs.Prelude.{◌≡◌, ◌↔◌, ℕ, ◌+◌, ◌-◌, ◌*◌, ◌<◌, ◌≤◌, ◌==◌, slice_get, nat_le, List, [], ◌∷◌, Option, Some, None, option_map, find, pos, All, IsSomeAnd, if◌then◌else◌}
+use Rattle.std.specs.Int.{div_ceil}
 use Rattle.duct_units.specs.Ceiling.{IsCeiling}
 use Rattle.friction_table.specs.declared.limits.TheConstants.{MAX_FLOW, MAX_RATE, MILLIMETRES_PER_METRE, MILLIPASCALS_PER_DECIPASCAL}
 use Rattle.friction_table.specs.declared.row.FlowRate.{FlowRate}
@@ -72,6 +74,15 @@ IsLossOver length rate loss =
 -- the airflow has a rate, and this is the loss over the length in mm at it, dPa: rounded up once from the exact rate
 abbrev pub IsFrictionLoss : List FlowRate → ℕ → ℕ → ℕ → Type 0
 IsFrictionLoss rows flow length loss = IsSomeAnd (rate_at flow rows) (λ rate. IsLossOver length rate loss)
+
+-- the length in mm at the rate in mPa/m, over the units, rounded up to whole dPa
+abbrev pub loss_over : ℕ → Fraction → ℕ
+loss_over length rate =
+    div_ceil (length * rate.num) (MILLIMETRES_PER_METRE * MILLIPASCALS_PER_DECIPASCAL * rate.den)
+
+-- what the length in mm loses at the airflow, dPa; none where the airflow is above every row
+abbrev pub friction_loss : List FlowRate → ℕ → ℕ → Option ℕ
+friction_loss rows flow length = option_map (loss_over length) (rate_at flow rows)
 
 -- wherever the rate is this whole number of mPa/m, the length in mm loses so many dPa, and no other whole number
 abbrev pub Loses : ℕ → ℕ → ℕ → Type 0

@@ -5,7 +5,7 @@ ghost use Rattle.std.specs.List.{position_from};
 ghost use Rattle.duct_units.specs.Rules.{first_broken};
 ghost use Rattle.file_definitions.specs.Rows.{TakesRow, TakesItem};
 ghost use Rattle.friction_table.specs.Rates.{IsRate, IsTable, RisesThroughout};
-ghost use Rattle.friction_table.specs.Loss.{IsAboveAll, IsFrictionLoss, IsLossOver, IsRateInBounds};
+ghost use Rattle.friction_table.specs.Loss.{IsAboveAll, IsFrictionLoss, IsLossOver, IsRateInBounds, friction_loss, loss_over};
 ghost use Rattle.friction_table.specs.Reading.{friction_form, row_of_each, table_of, AddsRow};
 
 use crate::limits::{
@@ -67,6 +67,7 @@ impl Friction {
         requires flow { (MIN_FLOW ≤ flow) × (flow ≤ MAX_FLOW) }
         requires length { length ≤ MAX_LENGTH }
         ensures none { IsNone result ↔ IsAboveAll flow (table_of self.now size) }
+        ensures value { result ≡ friction_loss (table_of self.now size) flow length }
         ensures loss { IfSome result (IsFrictionLoss (table_of self.now size) flow length) }
         ensures most { IfSome result (λ loss. loss ≤ MAX_FRICTION_LOSS) }
     {
@@ -137,7 +138,8 @@ fn first_empty(tables: &[RateTable]) -> Option<usize>
 fn loss_over(length: u64, rate: Fraction) -> u64
     requires length { length ≤ MAX_LENGTH }
     requires rate { IsRateInBounds rate }
-    ensures value { IsLossOver length rate result }
+    ensures value { result ≡ loss_over length rate }
+    ensures least { IsLossOver length rate result }
     ensures most { result ≤ MAX_FRICTION_LOSS }
 {
     let unit = MILLIMETRES_PER_METRE * MILLIPASCALS_PER_DECIPASCAL * rate.den;
