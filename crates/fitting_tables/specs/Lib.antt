@@ -1,0 +1,10 @@
+pub mod Breakpoints
+pub mod Cells
+pub mod FittingRow
+pub mod Span
+pub mod Coefficient
+pub mod Worked
+pub mod GridIndex
+pub mod Fittings
+pub mod FittingsIndex
+pub mod Reading
