@@ -1,0 +1,3 @@
+pub mod FansLaws
+pub mod EnergyLaws
+pub mod ReadingLaws

@@ -1,0 +1,5 @@
+pub mod FanRow
+pub mod Energy
+pub mod Fans
+pub mod FansIndex
+pub mod Reading
