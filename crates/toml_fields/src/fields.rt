@@ -4,6 +4,7 @@ ghost use Rattle.std.specs.List.{list_any, list_all};
 ghost use Rattle.std.specs.Map.{keys_of};
 ghost use Rattle.std.specs.Str.{bytes_eq};
 ghost use Rattle.toml.specs.Data.{as_integer, as_array, get_member};
+ghost use Rattle.toml_fields.specs.KeyFields.{flag_at, table_at};
 ghost use Rattle.toml.specs.View.{table_view, array_view, view};
 ghost use Rattle.duct_units.specs.Name.{is_name};
 ghost use Rattle.file_definitions.specs.Document.{has_key, has_only, items_at, number_at, name_at, text_at};
@@ -55,6 +56,26 @@ pub fn name_at(table: &Table, key: &str) -> Option<Name>
 {
     match text_at(table, key) {
         Some(text) => Name::new(text.as_bytes()),
+        None => None,
+    }
+}
+
+/// The truth value at a key.
+pub fn flag_at(table: &Table, key: &str) -> Option<bool>
+    ensures { result ≡ flag_at key.now (table_view table.now) }
+{
+    match table.get(key) {
+        Some(value) => value.as_bool(),
+        None => None,
+    }
+}
+
+/// The table at a key.
+pub fn table_at<'t>(table: &'t Table, key: &str) -> Option<&'t Table>
+    ensures { option_map (λ inner. table_view inner.now) result ≡ table_at key.now (table_view table.now) }
+{
+    match table.get(key) {
+        Some(value) => value.as_table(),
         None => None,
     }
 }
