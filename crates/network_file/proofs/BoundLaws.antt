@@ -9,7 +9,7 @@ use Rattle.duct_definitions.specs.declared.limits.TheConstants.{MAX_LOSS, MAX_PR
 use Rattle.network_file.specs.Pairs.{size_in, neighbour_size_in, row_of, rows_of, cell_of, pair_in}
 use Rattle.network_file.specs.declared.pairs.PairRow.{PairRow}
 use Rattle.std.specs.List.{cons_option}
-use Rattle.network_file.proofs.NameLaws.{some_is}
+use Rattle.section_tables.proofs.NameLaws.{some_is}
 
 -- a number that was read is within its bounds
 pub bounded_is : (low high : ℕ) (number : Option ℤ) (n : ℕ) → bounded low high number ≡ Some n → (low ≤ n) × (n ≤ high)

@@ -1,10 +1,9 @@
-pub mod StepLaws
 pub mod PartLaws
 pub mod PairLaws
-pub mod SequenceLaws
 pub mod NeighbourLaws
 pub mod NameLaws
 pub mod BoundLaws
 pub mod ValidLaws
 pub mod OrderLaws
 pub mod EntryLaws
+pub mod ReadLaws

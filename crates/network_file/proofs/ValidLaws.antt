@@ -14,16 +14,20 @@ use Rattle.duct_definitions.specs.declared.limits.TheConstants.{MAX_PRESSURE, MA
 use Rattle.duct_units.specs.declared.fault.Reason.TheVariants.{Field}
 use Rattle.file_definitions.specs.Document.{name_at, text_at}
 use Rattle.duct_definitions.specs.declared.limits.TheConstants.{MAX_SIZES, MAX_FANS}
-use Rattle.network_file.specs.SectionTables.{SectionEntry, entry_of, table_names, section_rules, section_table_rules, all_section_rules}
+use Rattle.network_file.specs.SectionTables.{SectionEntry, entry_of, table_names, section_rules, section_table_rules, all_section_rules, tree_sections, no_tree_section}
 use Rattle.network_file.specs.Pairs.{all_size_rules, size_name_rules, all_pair_rules, size_and_pair_rules_after, all_size_and_pair_rules, section_size_count, neighbour_size_count, rows_of, pair_in, columns_of, pairs_of_section}
-use Rattle.network_file.specs.Neighbours.{neighbour_of, all_neighbour_rules, tree_of, neighbour_and_tree_rules}
+use Rattle.section_tables.specs.declared.tree_section.TreeSection.{TreeSection}
+use Rattle.section_tables.specs.Neighbours.{neighbour_of, all_neighbour_rules, tree_of, neighbour_and_tree_rules}
+use Rattle.section_tables.specs.Sides.{side_at}
+use Rattle.section_tables.specs.TreeSections.{tree_section_at}
 use Rattle.network_file.specs.TopTable.{top_rules, network_name, fan_tables, section_tables}
 use Rattle.network_file.proofs.OrderLaws.{after_top, after_fans, after_sections}
 use Rattle.network_file.proofs.PartLaws.{is_new_fan, fan_twice, is_new_section, section_twice, entry_names_are}
-use Rattle.network_file.proofs.StepLaws.{named_holds}
+use Rattle.section_tables.proofs.StepLaws.{named_holds}
 use Rattle.network_file.proofs.NeighbourLaws.{neighbour_in_tree}
 use Rattle.network_file.proofs.PairLaws.{length-cells_of}
-use Rattle.duct_units.specs.declared.side.Side.TheVariants.{Supply}
+use Rattle.duct_units.specs.declared.side.Side.{Side}
+use Rattle.toml_fields.specs.KeyFields.{optional_name_at}
 use Rattle.duct_definitions.specs.declared.design.Pair.{Pair}
 use Rattle.duct_definitions.specs.declared.design.NetFan.{NetFan}
 use Rattle.duct_definitions.specs.Tree.{tree_rules}
@@ -33,8 +37,12 @@ use Rattle.name_index.specs.Places.{is_among}
 use Rattle.file_definitions.specs.Elements.{each}
 use Rattle.file_definitions.proofs.ElementLaws.{each_holds}
 use Rattle.network_file.specs.NetworkFile.{network_rules, network_in, entries}
-use Rattle.network_file.proofs.NameLaws.{distinct_from, name_form, all_map, are_names, not_true, size_form}
+use Rattle.section_tables.proofs.NameLaws.{distinct_from, name_form, name_is, all_map, are_names, not_true}
+use Rattle.network_file.proofs.NameLaws.{size_form}
 use Rattle.network_file.proofs.BoundLaws.{number_within, cell_bounded}
+
+abbrev section_with : List ℕ → Side → Option (List ℕ) → TreeSection
+section_with name side neighbour = record { name = name; side = side; neighbour = neighbour }
 
 -- the rules of the fan at a place
 fan_holds : (tables : List Members) (k : ℕ) (table : Members) → first_broken (each fan_rules tables) ≡ None → slice_get tables k ≡ Some table
@@ -49,9 +57,21 @@ fan_holds tables k table none at =
     let cost = number_within 0 MAX_FAN_COST (option_and_then as_integer (get_member (codes "cost") table)) priced.0 in
     (named.0, record { some_pressure = pressure.0; pressure = pressure.1; cost = cost.1 }, not_true _ parts.1)
 
+-- a section that says its place in the tree has a name of the form
+tree_name_form : (table : Members) → is_some (tree_section_at table) ≡ true → IsTrue (is_name (entry_of table).tree.name)
+tree_name_form table there = of_parts (name_at (codes "name") table) (side_at table) (optional_name_at (codes "neighbour") table) (λ name is. name_is (text_at (codes "name") table) name is) there
+  where
+    of_parts : (name : Option (List ℕ)) (side : Option Side) (neighbour : Option (Option (List ℕ))) → ((n : List ℕ) → name ≡ Some n → IsTrue (is_name n))
+        → is_some (option_and_then (λ n. option_and_then (λ x. option_and_then (λ o. Some (section_with n x o)) neighbour) side) name) ≡ true
+        → IsTrue (is_name (unwrap_or (option_and_then (λ n. option_and_then (λ x. option_and_then (λ o. Some (section_with n x o)) neighbour) side) name) no_tree_section).name)
+    of_parts None side neighbour form is = cc
+    of_parts (Some name) None neighbour form is = cc
+    of_parts (Some name) (Some side) None form is = cc
+    of_parts (Some name) (Some side) (Some neighbour) form is = form name refl
+
 -- the rules of the section's table at a place
 section_holds : (tables : List Members) (k : ℕ) (table : Members) → first_broken (each section_rules tables) ≡ None → slice_get tables k ≡ Some table
-    → (is_some (name_at (codes "name") table) ≡ true) × (is_among (entry_of table).name (table_names (take k tables)) ≡ false)
+    → (is_some (tree_section_at table) ≡ true) × (is_among (entry_of table).tree.name (table_names (take k tables)) ≡ false)
 section_holds tables k table none at =
     let parts = named_holds section_table_rules is_new_section section_twice tables k table none at in
     let keys = rule_holds _ _ _ parts.0 in
@@ -84,7 +104,7 @@ count_at (section ∷ sections) zero = refl
 count_at (section ∷ sections) (suc n) = count_at sections n
 
 columns_at : (doc : Members) (s : ℕ) (section : SectionEntry) → slice_get (entries doc) s ≡ Some section → columns (network_in doc) s ≡ columns_of (neighbour_size_count (entries doc) section)
-columns_at doc s section at = ap (columns_beside (network_in doc)) (neighbour_in_tree (entries doc) s section at) ∙ by_neighbour (neighbour_of (entries doc) section)
+columns_at doc s section at = ap (columns_beside (network_in doc)) (neighbour_in_tree (entries doc) s section at) ∙ by_neighbour (neighbour_of (tree_sections (entries doc)) section.tree)
   where
     by_neighbour : (o : Option ℕ) → columns_beside (network_in doc) o ≡ columns_of (option_map (section_size_count (entries doc)) o)
     by_neighbour None = refl
@@ -135,30 +155,32 @@ no_fans = record {
 }
 
 abbrev no_section : SectionEntry
-no_section = record { name = []; side = Supply; neighbour = None; sizes = []; pairs = [] }
+no_section = record { tree = no_tree_section; sizes = []; pairs = [] }
 
 -- a network with no broken rule is one
 pub is_network : (doc : Members) → first_broken (network_rules doc) ≡ None → IsNetwork (network_in doc)
 is_network doc none =
     let sections = entries doc in
+    let in_tree = tree_sections sections in
+    let count = length-map in_tree (neighbour_of in_tree) ∙ length-map sections (λ (section : SectionEntry). section.tree) in
     let tables = section_tables doc in
     let fans = fan_tables doc in
     let at_top = both_none _ _ (sym (first_broken-append (top_rules doc) (after_top doc)) ∙ none) in
     let at_fans = both_none _ _ (sym (first_broken-append (all_fan_rules fans) (after_fans doc)) ∙ at_top.1) in
     let at_sections = both_none _ _ (sym (first_broken-append (all_section_rules tables) (after_sections doc)) ∙ at_fans.1) in
-    let at_tree = both_none _ _ (sym (first_broken-append (neighbour_and_tree_rules sections) (all_size_and_pair_rules sections)) ∙ at_sections.1) in
-    let tree = both_none _ _ (sym (first_broken-append (all_neighbour_rules sections) (tree_rules (tree_of sections))) ∙ at_tree.0) in
+    let at_tree = both_none _ _ (sym (first_broken-append (neighbour_and_tree_rules in_tree) (all_size_and_pair_rules sections)) ∙ at_sections.1) in
+    let tree = both_none _ _ (sym (first_broken-append (all_neighbour_rules in_tree) (tree_rules (tree_of in_tree))) ∙ at_tree.0) in
     let few_fans = rule_holds _ _ _ at_fans.0 in
     let few_sections = rule_holds _ _ _ at_sections.0 in
     record {
       name = top_name doc at_top.0;
-      tree = record { sides = length-map sections (λ (section : SectionEntry). section.side) ∙ sym (length-map sections (neighbour_of sections)); rules = tree.1 };
-      names = subst AreNames (entry_names_are tables) (are_names (λ table. (entry_of table).name) tables
-          (λ k table at. let holds = section_holds tables k table few_sections.1 at in (name_form (text_at (codes "name") table) holds.0, holds.1)));
-      name_count = length-map sections (λ (section : SectionEntry). section.name) ∙ sym (length-map sections (neighbour_of sections));
-      size_lists = length-map sections (λ (section : SectionEntry). section.sizes) ∙ sym (length-map sections (neighbour_of sections));
-      pair_lists = length-map sections (pairs_of_section sections) ∙ sym (length-map sections (neighbour_of sections));
-      sections = λ s within. section_is doc s (get_or sections s no_section) at_tree.1 (slice_get-get_or sections s no_section (subst (λ n. s < n) (length-map sections (neighbour_of sections)) within));
+      tree = record { sides = length-map in_tree (λ (section : TreeSection). section.side) ∙ sym (length-map in_tree (neighbour_of in_tree)); rules = tree.1 };
+      names = subst AreNames (entry_names_are tables) (are_names (λ table. (entry_of table).tree.name) tables
+          (λ k table at. let holds = section_holds tables k table few_sections.1 at in (tree_name_form table holds.0, holds.1)));
+      name_count = length-map in_tree (λ (section : TreeSection). section.name) ∙ sym (length-map in_tree (neighbour_of in_tree));
+      size_lists = length-map sections (λ (section : SectionEntry). section.sizes) ∙ sym count;
+      pair_lists = length-map sections (pairs_of_section sections) ∙ sym count;
+      sections = λ s within. section_is doc s (get_or sections s no_section) at_tree.1 (slice_get-get_or sections s no_section (subst (λ n. s < n) count within));
       fans = record {
         names = subst AreNames (fan_names_are fans) (are_names (λ table. (fan_of table).name) fans
             (λ k table at. let holds = fan_holds fans k table few_fans.1 at in (name_form (text_at (codes "name") table) holds.0, holds.2)));

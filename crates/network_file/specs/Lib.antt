@@ -1,7 +1,6 @@
 pub mod TopTable
 pub mod FanTables
 pub mod SectionTables
-pub mod Neighbours
 pub mod Pairs
 pub mod NetworkFile
 pub mod TableEntries

@@ -12,8 +12,9 @@ use Rattle.duct_definitions.specs.Network.{Network}
 use Rattle.file_definitions.specs.Document.{document_of}
 use Rattle.network_file.specs.TopTable.{top_rules, network_name, fan_tables, section_tables}
 use Rattle.network_file.specs.FanTables.{all_fan_rules, fan_of}
-use Rattle.network_file.specs.SectionTables.{SectionEntry, all_section_rules, entry_of}
-use Rattle.network_file.specs.Neighbours.{neighbour_and_tree_rules, tree_of, entry_names}
+use Rattle.section_tables.specs.Neighbours.{neighbour_and_tree_rules, tree_of}
+use Rattle.section_tables.specs.TreeSections.{section_names}
+use Rattle.network_file.specs.SectionTables.{SectionEntry, all_section_rules, entry_of, tree_sections}
 use Rattle.network_file.specs.Pairs.{all_size_and_pair_rules, pairs_of_section}
 
 -- the sections, as their tables say
@@ -26,7 +27,7 @@ network_rules doc =
     top_rules doc
     ++ (all_fan_rules (fan_tables doc)
     ++ (all_section_rules (section_tables doc)
-    ++ (neighbour_and_tree_rules (entries doc)
+    ++ (neighbour_and_tree_rules (tree_sections (entries doc))
     ++ all_size_and_pair_rules (entries doc))))
 
 -- the network that the document describes; it has no return fans
@@ -34,8 +35,8 @@ abbrev pub network_in : Members → Network
 network_in doc =
     let sections = entries doc in record {
       name = network_name doc;
-      tree = tree_of sections;
-      names = entry_names sections;
+      tree = tree_of (tree_sections sections);
+      names = section_names (tree_sections sections);
       sizes = map (λ section. section.sizes) sections;
       pairs = map (pairs_of_section sections) sections;
       fans = map fan_of (fan_tables doc);

@@ -18,8 +18,8 @@ use Rattle.network_file.specs.declared.pairs.TheConstants.{MAX_PAIRS}
 use Rattle.network_file.specs.declared.pairs.PairRow.{PairRow}
 use Rattle.network_file.specs.declared.sizes_and_pairs.AllSizesAndPairs.{AllSizesAndPairs}
 use Rattle.network_file.specs.declared.sizes_and_pairs.SizesAndPairs.{SizesAndPairs}
-use Rattle.network_file.specs.SectionTables.{SectionEntry}
-use Rattle.network_file.specs.Neighbours.{neighbour_of}
+use Rattle.section_tables.specs.Neighbours.{neighbour_of}
+use Rattle.network_file.specs.SectionTables.{SectionEntry, tree_sections}
 
 -- how many sizes section s has
 abbrev pub section_size_count : List SectionEntry → ℕ → ℕ
@@ -27,7 +27,7 @@ section_size_count sections s = unwrap_or (option_map (λ section. length sectio
 
 -- how many sizes the neighbour has; none at the fan
 abbrev pub neighbour_size_count : List SectionEntry → SectionEntry → Option ℕ
-neighbour_size_count sections section = option_map (section_size_count sections) (neighbour_of sections section)
+neighbour_size_count sections section = option_map (section_size_count sections) (neighbour_of (tree_sections sections) section.tree)
 
 -- the number of a size of so many, from 0; the file counts it from 1
 abbrev pub size_in : ℕ → Data → Option ℕ

@@ -14,9 +14,7 @@ top_entry top = record { name = top.name; fans = tables_in top.fans; sections = 
 -- what was read of the table of a section
 abbrev pub section_entry : SectionTable → SectionEntry
 section_entry table = record {
-  name = table.name;
-  side = table.side;
-  neighbour = table.neighbour;
+  tree = table.tree;
   sizes = names_in table.sizes;
   pairs = arrays_in table.pairs;
 }

@@ -6,7 +6,6 @@
 
 mod fans;
 mod laws;
-mod neighbours;
 mod pairs;
 mod reading;
 mod sections;

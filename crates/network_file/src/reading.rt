@@ -2,20 +2,23 @@
 //! the sizes and pairs.
 ghost use Rattle.toml.specs.View.{table_view};
 ghost use Rattle.duct_units.specs.Rules.{Gives, unless_refused, first_broken};
-ghost use Rattle.network_file.specs.Neighbours.{entry_names, neighbour_and_tree_rules, tree_of};
+ghost use Rattle.section_tables.specs.Neighbours.{neighbour_and_tree_rules, tree_of};
+ghost use Rattle.section_tables.specs.TreeSections.{section_names};
 ghost use Rattle.network_file.specs.NetworkFile.{network_of, reading};
-ghost use Rattle.network_file.specs.TableEntries.{section_entries};
+ghost use Rattle.network_file.specs.SectionTables.{tree_sections};
+ghost use Rattle.network_file.specs.TableEntries.{section_entry};
 ghost use Rattle.std.specs.Prelude.{◌≡◌, ◌≤◌, Some, length, map, IfOk};
 
 use crate::fans::read_fans;
-use crate::neighbours::read_neighbours;
-use crate::sections::{SectionTable, Sections, read_sections};
+use crate::sections::{SectionTable, read_sections};
 use crate::sizes_and_pairs::read_all_sizes_and_pairs;
 use crate::top::read_top;
 use air_tree::AirTree;
 use duct_definitions::MAX_SECTIONS;
-use duct_units::{Fault, List, NoMemory, ReadError, Reason, Side};
+use duct_units::{Fault, NoMemory, ReadError, Reason};
+use name_index::NameIndex;
 use net_model::Network;
+use section_tables::{TreeSection, read_tree};
 use std::alloc::Global;
 use toml::Table;
 use toml_fields::{DocumentError, read_document};
@@ -46,8 +49,9 @@ fn network_in(alloc: Global, document: &Table) -> Result<Network, ReadError>
         Ok(sections) => sections,
         Err(error) => return Err(error),
     };
-    let tree = read_tree(alloc, &sections)?;
-    let lists = read_all_sizes_and_pairs(alloc, sections.tables.as_slice(), &tree)?;
+    let tables = sections.tables.as_slice();
+    let tree = tree_of(alloc, tables, &sections.names)?;
+    let lists = read_all_sizes_and_pairs(alloc, tables, &tree)?;
     Ok(Network::new(
         top.name,
         tree,
@@ -58,26 +62,28 @@ fn network_in(alloc: Global, document: &Table) -> Result<Network, ReadError>
     ))
 }
 
-/// The tree of the sections, or the first rule of a tree that they break.
-fn read_tree(alloc: Global, sections: &Sections) -> Result<AirTree, ReadError>
-    requires few { length sections.now.tables.items ≤ MAX_SECTIONS }
-    requires names { sections.now.names ≡ entry_names (section_entries sections.now) }
-    ensures { let entries = section_entries sections.now in
-        Gives result (unless_refused (first_broken (neighbour_and_tree_rules entries)) (tree_of entries)) }
+/// The tree of the sections, or the first rule of their neighbours or of a tree that they break.
+fn tree_of(
+    alloc: Global,
+    sections: &[SectionTable],
+    names: &NameIndex,
+) -> Result<AirTree, ReadError>
+    requires few { length sections.now ≤ MAX_SECTIONS }
+    requires names { names.now ≡ section_names (tree_sections (map section_entry sections.now)) }
+    ensures { let in_tree = tree_sections (map section_entry sections.now) in
+        Gives result (unless_refused (first_broken (neighbour_and_tree_rules in_tree)) (tree_of in_tree)) }
 {
-    let tables = sections.tables.as_slice();
-    let neighbours = read_neighbours(alloc, tables, &sections.names)?;
-    let sides = sides_of(alloc, tables)?;
-    AirTree::new(alloc, neighbours, sides)
+    let in_tree = tree_sections(alloc, sections)?;
+    read_tree(alloc, in_tree.as_slice(), names)
 }
 
-/// The side of each section.
-fn sides_of(alloc: Global, sections: &[SectionTable]) -> Result<List<Side>, NoMemory>
-    ensures { IfOk result (λ sides. sides ≡ map (λ section. section.side) sections.now) }
+/// What each section says of the tree.
+fn tree_sections(alloc: Global, sections: &[SectionTable]) -> Result<Vec<TreeSection>, NoMemory>
+    ensures { IfOk result (λ in_tree. in_tree.items ≡ tree_sections (map section_entry sections.now)) }
 {
-    let mut sides = Vec::with_capacity(alloc, sections.len())?;
+    let mut in_tree = Vec::with_capacity(alloc, sections.len())?;
     for section in sections {
-        sides.push(section.side)?;
+        in_tree.push(section.tree)?;
     }
-    Ok(List::from_vec(sides))
+    Ok(in_tree)
 }

@@ -5,23 +5,22 @@ ghost use Rattle.duct_units.specs.Rules.{unless_refused, first_broken};
 ghost use Rattle.file_definitions.specs.Elements.{each};
 ghost use Rattle.file_definitions.specs.Reading.{GivesAs, ReadsAs};
 ghost use Rattle.toml_fields.specs.ArrayItems.{tables_in};
-ghost use Rattle.network_file.specs.SectionTables.{all_section_rules, section_rules, section_table_rules, entry_of, side_at, neighbour_at};
-ghost use Rattle.network_file.specs.Neighbours.{entry_names};
+ghost use Rattle.section_tables.specs.TreeSections.{section_names};
+ghost use Rattle.network_file.specs.SectionTables.{all_section_rules, section_rules, section_table_rules, entry_of, tree_sections};
 ghost use Rattle.network_file.specs.TableEntries.{section_entry, section_entries};
 
 use duct_definitions::MAX_SECTIONS;
-use duct_units::{Fault, Name, ReadError, Reason, Side};
+use duct_units::{Fault, ReadError, Reason};
 use name_index::NameIndex;
+use section_tables::TreeSection;
 use std::alloc::Global;
 use toml::Table;
-use toml_fields::{Arrays, Names, Tables, has_key, has_only, name_at, text_at};
+use toml_fields::{Arrays, Names, Tables, has_only};
 
 /// What the table of a section says: sizes and pairs are lent by the document.
 #[derive(Drop)]
 pub(crate) struct SectionTable<'t> {
-    pub name: Name,
-    pub side: Side,
-    pub neighbour: Option<Name>,
+    pub tree: TreeSection,
     pub sizes: Names<'t>,
     pub pairs: Arrays<'t>,
 }
@@ -42,7 +41,7 @@ pub(crate) fn read_sections<'t>(
     ensures value { let sections = tables_in tables.now in
         GivesAs section_entries result
         (unless_refused (first_broken (all_section_rules sections)) (map entry_of sections)) }
-    ensures names { IfOk result (λ sections. sections.names ≡ entry_names (section_entries sections)) }
+    ensures names { IfOk result (λ sections. sections.names ≡ section_names (tree_sections (section_entries sections))) }
     ensures few { IfOk result (λ sections. length sections.tables.items ≤ MAX_SECTIONS) }
 {
     if tables.len() > MAX_SECTIONS {
@@ -57,7 +56,7 @@ fn read_section_tables<'t>(alloc: Global, tables: &Tables<'t>) -> Result<Section
     ensures value { let sections = tables_in tables.now in
         GivesAs section_entries result
         (unless_refused (first_broken (each section_rules sections)) (map entry_of sections)) }
-    ensures names { IfOk result (λ sections. sections.names ≡ entry_names (section_entries sections)) }
+    ensures names { IfOk result (λ sections. sections.names ≡ section_names (tree_sections (section_entries sections))) }
     ensures few { IfOk result (λ sections. length sections.tables.items ≤ MAX_SECTIONS) }
 {
     let mut names = NameIndex::new(alloc);
@@ -68,7 +67,8 @@ fn read_section_tables<'t>(alloc: Global, tables: &Tables<'t>) -> Result<Section
             Ok(section) => section,
             Err(fault) => return Err(ReadError::Refused(fault)),
         };
-        if !names.add(section.name)? {
+        let in_tree = section.tree;
+        if !names.add(in_tree.name)? {
             return Err(ReadError::Refused(Fault::of_section(place, Reason::Twice)));
         }
         if sections.push(section).is_err() {
@@ -90,13 +90,7 @@ fn read_table(table: &Table, place: u32) -> Result<SectionTable<'_>, Fault>
     if !has_only(table, &["name", "side", "neighbour", "sizes", "pairs"]) {
         return Err(Fault::of_section(place, Reason::Key));
     }
-    let Some(name) = name_at(table, "name") else {
-        return Err(Fault::of_section(place, Reason::Field));
-    };
-    let Some(side) = side_at(table) else {
-        return Err(Fault::of_section(place, Reason::Field));
-    };
-    let Some(neighbour) = neighbour_at(table) else {
+    let Some(tree) = TreeSection::at(table) else {
         return Err(Fault::of_section(place, Reason::Field));
     };
     let Some(sizes) = Names::at(table, "sizes") else {
@@ -105,33 +99,5 @@ fn read_table(table: &Table, place: u32) -> Result<SectionTable<'_>, Fault>
     let Some(pairs) = Arrays::at(table, "pairs") else {
         return Err(Fault::of_section(place, Reason::Field));
     };
-    Ok(SectionTable {
-        name,
-        side,
-        neighbour,
-        sizes,
-        pairs,
-    })
-}
-
-/// The side at its key.
-fn side_at(table: &Table) -> Option<Side>
-    ensures { result ≡ side_at (table_view table.now) }
-{
-    match text_at(table, "side")? {
-        "supply" => Some(Side::Supply),
-        "return" => Some(Side::Return),
-        _ => None,
-    }
-}
-
-/// The neighbour's name at its key; none where the key is absent.
-fn neighbour_at(table: &Table) -> Option<Option<Name>>
-    ensures { result ≡ neighbour_at (table_view table.now) }
-{
-    if has_key(table, "neighbour") {
-        name_at(table, "neighbour").map(Some)
-    } else {
-        Some(None)
-    }
+    Ok(SectionTable { tree, sizes, pairs })
 }

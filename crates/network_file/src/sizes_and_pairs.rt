@@ -2,8 +2,9 @@
 ghost use Rattle.std.specs.Prelude.{◌≡◌, ◌<◌, ◌≤◌, [], length, map, option_map, unwrap_or, slice_get, All, IfSome, IfOk};
 ghost use Rattle.duct_units.specs.Rules.{Gives, unless_refused, first_broken};
 ghost use Rattle.duct_definitions.specs.Tree.{section_count, neighbour};
-ghost use Rattle.network_file.specs.Neighbours.{tree_of};
+ghost use Rattle.section_tables.specs.Neighbours.{tree_of};
 ghost use Rattle.network_file.specs.Pairs.{all_size_and_pair_rules, all_sizes_and_pairs, size_and_pair_rules, sizes_and_pairs};
+ghost use Rattle.network_file.specs.SectionTables.{tree_sections};
 ghost use Rattle.network_file.specs.TableEntries.{section_entry};
 
 use crate::pairs::read_pairs;
@@ -35,7 +36,7 @@ pub(crate) fn read_all_sizes_and_pairs(
     tree: &AirTree,
 ) -> Result<AllSizesAndPairs, ReadError>
     requires few { length sections.now ≤ MAX_SECTIONS }
-    requires tree { tree.now ≡ tree_of (map section_entry sections.now) }
+    requires tree { tree.now ≡ tree_of (tree_sections (map section_entry sections.now)) }
     ensures { let entries = map section_entry sections.now in
         Gives result (unless_refused (first_broken (all_size_and_pair_rules entries)) (all_sizes_and_pairs entries)) }
 {

@@ -3,8 +3,9 @@ use Rattle.toml.specs.View.{table_view}
 use Rattle.toml_fields.specs.ArrayItems.{tables_in}
 use Rattle.duct_definitions.specs.declared.design.NetFan.{NetFan}
 use Rattle.network_file.specs.FanTables.{fan_table_rules, fan_of}
-use Rattle.network_file.proofs.StepLaws.{read_ok, read_err, own_broken, not_new, in_order, grown}
-use Rattle.network_file.proofs.PartLaws.{is_new_fan, fan_twice, added_is_new}
+use Rattle.section_tables.proofs.StepLaws.{read_ok, read_err, own_broken, not_new, in_order, grown}
+use Rattle.section_tables.proofs.NameLaws.{added_is_new}
+use Rattle.network_file.proofs.PartLaws.{is_new_fan, fan_twice}
 use Rattle.network_file.proofs.fans.read_fan_tables.Goals as goal
 
 pub returns-in_err-fan : goal.returns-in_err-fan

@@ -2,7 +2,7 @@ use Rattle.std.proofs.Common.{◌≡◌, ◌≤◌, map, length, take}
 use Rattle.duct_definitions.specs.declared.limits.TheConstants.{MAX_FANS}
 use Rattle.toml_fields.specs.ArrayItems.{tables_in}
 use Rattle.network_file.specs.FanTables.{fan_rules, fan_of, fan_names}
-use Rattle.network_file.proofs.StepLaws.{HoldBefore}
+use Rattle.section_tables.proofs.StepLaws.{HoldBefore}
 use Rattle.network_file.proofs.fans.read_fan_tables.Given as goal
 
 abbrev pub invariant-loop-i : goal.invariant-loop-i

@@ -24,10 +24,9 @@ loop-i-init c = record {
 pub returns-in_default : goal.returns-in_default
 returns-in_default c =
     let given = arrays_in c.args.pairs.now in
-    let rows = rows_of c.args.size_count c.args.neighbour_count (take c.loop-i.i given) in
     let broken = c.loop-i.invariant.rules
     ∙ each_here (pair_rules c.args.place c.args.size_count c.args.neighbour_count) given c.loop-i.i (map view c.get.result.now) (section_fault c.args.place Pair) c.get.ensures
-    (no_row c.args.place rows _ c.read_row.result c.read_row.ensures.value c.in_default.is) in
+    (no_row c.args.place (rows_of c.args.size_count c.args.neighbour_count (take c.loop-i.i given)) _ c.read_row.result c.read_row.ensures.value c.in_default.is) in
     search (rules, broken)
 
 pub returns-then-is_some : goal.returns-then-is_some

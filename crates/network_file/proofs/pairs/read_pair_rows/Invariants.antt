@@ -4,7 +4,7 @@ use Rattle.duct_definitions.specs.declared.limits.TheConstants.{MAX_SIZES}
 use Rattle.toml_fields.specs.ArrayItems.{arrays_in}
 use Rattle.network_file.specs.declared.pairs.PairRow.{PairRow}
 use Rattle.network_file.specs.Pairs.{pair_rules, rows_of, cells_of, columns_of}
-use Rattle.network_file.proofs.StepLaws.{HoldBefore}
+use Rattle.section_tables.proofs.StepLaws.{HoldBefore}
 use Rattle.network_file.proofs.pairs.read_pair_rows.Given as goal
 
 abbrev pub invariant-loop-i : goal.invariant-loop-i

@@ -3,7 +3,7 @@ use Rattle.duct_definitions.specs.declared.limits.TheConstants.{MAX_SECTIONS}
 use Rattle.toml_fields.specs.ArrayItems.{tables_in}
 use Rattle.network_file.specs.SectionTables.{section_rules, entry_of, table_names}
 use Rattle.network_file.specs.TableEntries.{section_entry}
-use Rattle.network_file.proofs.StepLaws.{HoldBefore}
+use Rattle.section_tables.proofs.StepLaws.{HoldBefore}
 use Rattle.network_file.proofs.sections.read_section_tables.Given as goal
 
 abbrev pub invariant-loop-i : goal.invariant-loop-i

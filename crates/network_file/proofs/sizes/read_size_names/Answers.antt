@@ -4,8 +4,8 @@ use Rattle.duct_units.specs.declared.fault.Reason.TheVariants.{Twice}
 use Rattle.file_definitions.proofs.ElementLaws.{each_here, each_past}
 use Rattle.toml_fields.specs.ArrayItems.{names_in}
 use Rattle.network_file.specs.Pairs.{size_name_rules}
-use Rattle.network_file.proofs.StepLaws.{last, added}
-use Rattle.network_file.proofs.PartLaws.{added_is_new}
+use Rattle.section_tables.proofs.StepLaws.{last, added}
+use Rattle.section_tables.proofs.NameLaws.{added_is_new}
 use Rattle.network_file.proofs.sizes.read_size_names.Goals as goal
 
 pub returns-then-not-branch-clause-value : goal.returns-then-not-branch-clause-value

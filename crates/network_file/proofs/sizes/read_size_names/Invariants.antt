@@ -1,7 +1,7 @@
 use Rattle.std.proofs.Common.{◌≡◌, length, take}
 use Rattle.toml_fields.specs.ArrayItems.{names_in}
 use Rattle.network_file.specs.Pairs.{size_name_rules}
-use Rattle.network_file.proofs.StepLaws.{HoldBefore}
+use Rattle.section_tables.proofs.StepLaws.{HoldBefore}
 use Rattle.network_file.proofs.sizes.read_size_names.Given as goal
 
 abbrev pub invariant-loop-k : goal.invariant-loop-k

@@ -6,9 +6,9 @@ use Rattle.duct_definitions.specs.declared.limits.TheConstants.{MAX_SIZES}
 use Rattle.network_file.specs.SectionTables.{SectionEntry}
 use Rattle.network_file.specs.Pairs.{all_size_and_pair_rules, all_sizes_and_pairs, size_and_pair_rules, sizes_and_pairs, pair_cells, pairs_of_section}
 use Rattle.network_file.specs.TableEntries.{section_entry}
-use Rattle.network_file.proofs.StepLaws.{numbered_holds, grown, view_at, all_grown}
+use Rattle.section_tables.proofs.StepLaws.{numbered_holds, grown, view_at, all_grown}
 use Rattle.network_file.proofs.NeighbourLaws.{found_size_count, size_and_pair_rules_at}
-use Rattle.network_file.proofs.SequenceLaws.{Stops, stops_from, stops_gives, each_stops, given}
+use Rattle.section_tables.proofs.SequenceLaws.{Stops, stops_from, stops_gives, each_stops, given}
 use Rattle.network_file.proofs.sizes_and_pairs.read_all_sizes_and_pairs.Goals as goal
 
 pub returns-in_err-own : goal.returns-in_err-own

@@ -4,7 +4,7 @@ use Rattle.duct_definitions.specs.declared.limits.TheConstants.{MAX_SIZES}
 use Rattle.network_file.specs.SectionTables.{SectionEntry}
 use Rattle.network_file.specs.Pairs.{size_and_pair_rules_after, pairs_of_section}
 use Rattle.network_file.specs.TableEntries.{section_entry}
-use Rattle.network_file.proofs.StepLaws.{HoldBefore}
+use Rattle.section_tables.proofs.StepLaws.{HoldBefore}
 use Rattle.network_file.proofs.sizes_and_pairs.read_all_sizes_and_pairs.Given as goal
 
 abbrev pub invariant-loop-i : goal.invariant-loop-i

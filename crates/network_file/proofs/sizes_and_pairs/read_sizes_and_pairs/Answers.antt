@@ -2,7 +2,7 @@ use Rattle.std.proofs.Common.{◌≡◌, ◌∙◌, ap, rules, length, subst, No
 use Rattle.duct_units.specs.Rules.{first_broken, unless_refused}
 use Rattle.network_file.specs.Pairs.{all_size_rules, all_pair_rules, size_and_pair_rules, sizes_and_pairs, cells_of, columns_of, rows_of}
 use Rattle.network_file.specs.TableEntries.{section_entry}
-use Rattle.network_file.proofs.SequenceLaws.{Stops, stops_from, stops_first, stops_later, stops_gives, all_hold, given}
+use Rattle.section_tables.proofs.SequenceLaws.{Stops, stops_from, stops_first, stops_later, stops_gives, all_hold, given}
 use Rattle.network_file.proofs.sizes_and_pairs.read_sizes_and_pairs.Goals as goal
 
 pub returns-in_err-sizes-clause-value : goal.returns-in_err-sizes-clause-value
