@@ -1,0 +1,17 @@
+pub mod Sums
+pub mod States
+pub mod Words
+pub mod Lists
+pub mod Kept
+pub mod Claiming
+pub mod Children
+pub mod Finishing
+pub mod Below
+pub mod Stepping
+pub mod Joining
+pub mod Closing
+pub mod Room
+pub mod Places
+pub mod Opening
+pub mod Taking
+pub mod Sorted
