@@ -1,0 +1,11 @@
+pub mod PartLaws
+pub mod ValidLaws
+pub mod OrderLaws
+pub mod RaisedLaws
+pub mod AscendingLaws
+pub mod KindDepths
+pub mod DepthLaws
+pub mod RaisedDepths
+pub mod MemberLaws
+pub mod RaisedSections
+pub mod RaisedReads

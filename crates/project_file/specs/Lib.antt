@@ -1,0 +1,11 @@
+pub mod Energy
+pub mod Limits
+pub mod TopTable
+pub mod SectionTables
+pub mod Sections
+pub mod Projects
+pub mod ProjectFile
+pub mod TableEntries
+pub mod Raised
+pub mod Ascending
+pub mod Shallow
