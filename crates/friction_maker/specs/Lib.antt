@@ -1,0 +1,4 @@
+pub mod Rate
+pub mod DuctRow
+pub mod Making
+pub mod RowsText
