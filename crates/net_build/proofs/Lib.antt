@@ -1,0 +1,11 @@
+pub mod AddedLaws
+pub mod AskedLaws
+pub mod PairLaws
+pub mod FlowLaws
+pub mod OfferLaws
+pub mod ListLaws
+pub mod FactLaws
+pub mod JoinLaws
+pub mod TogetherLaws
+pub mod NumberLaws
+pub mod NetworkLaws

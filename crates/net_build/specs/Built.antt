@@ -1,0 +1,58 @@
+-- The network of a project, its catalogues and the rules of sizes.
+--   network_of p c fans rules       the tree, the sizes of each section's list, the permitted pairs, and the fans on offer
+--   built p c fans rules names      the network with the rules' counts, or the first name that joins nothing
+use Rattle.std.specs.Prelude.{ℕ, List, [], map, Option, Result}
+use Rattle.duct_units.specs.declared.fault.Fault.{Fault}
+use Rattle.duct_units.specs.Rules.{first_broken, unless_refused}
+use Rattle.duct_definitions.specs.declared.design.Pair.{Pair}
+use Rattle.duct_definitions.specs.declared.listed.RuleCount.{RuleCount}
+use Rattle.duct_definitions.specs.Airflow.{fan_flow}
+use Rattle.duct_definitions.specs.Network.{Network}
+use Rattle.duct_definitions.specs.Tree.{sections}
+use Rattle.fan_points.specs.declared.row.FanRow.{FanRow}
+use Rattle.project_file.specs.declared.project.Project.{Project}
+use Rattle.design_rules.specs.Meanings.{Meaning}
+use Rattle.net_build.specs.declared.sections.SectionSizes.{SectionSizes}
+use Rattle.net_build.specs.Catalogues.{Catalogues, size_at}
+use Rattle.net_build.specs.Joining.{joining_rules}
+use Rattle.net_build.specs.Sections.{numbers_at, section_sizes}
+use Rattle.net_build.specs.Pairs.{size_pairs, pair_of}
+use Rattle.net_build.specs.Fans.{offered}
+use Rattle.net_build.specs.Refusals.{refusals}
+
+-- the names of the sizes with these numbers
+abbrev pub names_of_numbers : Catalogues → List ℕ → List (List ℕ)
+names_of_numbers c numbers = map (λ number. (size_at c.sizes number).name) numbers
+
+-- the names of the sizes that section s may have, in order
+abbrev pub size_names : Project → Catalogues → ℕ → List (List ℕ)
+size_names p c s = names_of_numbers c (numbers_at p c s)
+
+-- the pairs of a section, by its own size and then by its neighbour's
+abbrev pub pairs_of : Catalogues → List Meaning → SectionSizes → List (Option Pair)
+pairs_of c rules section = map (pair_of c rules section) (size_pairs section)
+
+-- the pairs of section s
+abbrev pub section_pairs : Project → Catalogues → List Meaning → ℕ → List (Option Pair)
+section_pairs p c rules s = pairs_of c rules (section_sizes p c s)
+
+-- the tree of the project, the sizes of each section's list, the permitted pairs, and the fans that serve the airflow of
+-- both sides, without return fans
+abbrev pub network_of : Project → Catalogues → List FanRow → List Meaning → Network
+network_of p c fans rules = record {
+  name = p.name;
+  tree = p.tree;
+  names = map (λ row. row.name) p.sections;
+  sizes = map (size_names p c) (sections p.tree);
+  pairs = map (section_pairs p c rules) (sections p.tree);
+  fans = offered fans p.energy (fan_flow p.flows);
+  return_fans = [];
+}
+
+-- the network, with how many pairs each rule refused
+abbrev pub network_and_refusals : Project → Catalogues → List FanRow → List Meaning → List (List ℕ) → Network × List RuleCount
+network_and_refusals p c fans rules names = (network_of p c fans rules, refusals p c rules names)
+
+-- the network with the rules' counts; or the fault of the first name that joins nothing
+abbrev pub built : Project → Catalogues → List FanRow → List Meaning → List (List ℕ) → Result (Network × List RuleCount) Fault
+built p c fans rules names = unless_refused (first_broken (joining_rules p c)) (network_and_refusals p c fans rules names)

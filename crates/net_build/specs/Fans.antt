@@ -1,0 +1,21 @@
+-- The fans on offer at an airflow.
+--   serves fan flow                 the airflow lies in the fan's range
+--   offered fans terms flow         the fans that serve it, in order, each at its price and the cost of its energy
+use Rattle.std.specs.Prelude.{ℕ, ◌+◌, nat_le, List, map, filter, Bool, ◌&&◌}
+use Rattle.duct_definitions.specs.declared.design.NetFan.{NetFan}
+use Rattle.fan_points.specs.declared.row.FanRow.{FanRow}
+use Rattle.fan_points.specs.declared.terms.Energy.{Energy}
+use Rattle.fan_points.specs.Energy.{energy_of}
+
+-- the airflow lies in the fan's range
+abbrev pub serves : ℕ → FanRow → Bool
+serves flow fan = nat_le fan.low flow && nat_le flow fan.high
+
+-- the fan at its price and the cost of its energy, cents
+abbrev pub fan_at_cost : Energy → FanRow → NetFan
+fan_at_cost terms fan =
+    record { name = fan.name; pressure = fan.pressure; cost = fan.price + energy_of fan terms }
+
+-- the fans that serve the airflow, in order, each at its price and the cost of its energy
+abbrev pub offered : List FanRow → Energy → ℕ → List NetFan
+offered fans terms flow = map (fan_at_cost terms) (filter (serves flow) fans)

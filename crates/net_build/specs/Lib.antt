@@ -1,0 +1,9 @@
+pub mod Catalogues
+pub mod Rows
+pub mod Joining
+pub mod Sections
+pub mod Pairs
+pub mod Fans
+pub mod Refusals
+pub mod Built
+pub mod Asking
