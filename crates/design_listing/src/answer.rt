@@ -23,7 +23,7 @@ pub fn answer_of(alloc: Global, net: Network, other: &Network) -> Result<List<u8
 fn text_of(alloc: Global, net: &Network) -> Result<List<u8>, NoMemory> {
     match best_design(alloc, net)? {
         Some(best) => design_text(alloc, net, &best),
-        None => print_none(alloc, &net.name()),
+        None => print_none(alloc, &net.name(), &[]),
     }
 }
 

@@ -1,9 +1,9 @@
 //! The text of a design, line by line.
 ghost use Rattle.std.specs.Prelude.{◌≡◌, ◌++◌, codes, IfOk, OnOk};
 ghost use Rattle.std.specs.List.{flat_map};
-ghost use Rattle.duct_definitions.specs.DesignText.{text, form_of, heading, fan_line, first_fan, back_line, section_line};
+ghost use Rattle.duct_definitions.specs.DesignText.{text, form_of, heading, fan_line, first_fan, back_line, section_line, refused_line};
 
-use duct_definitions::{Listed, ListedFan, ListedSection};
+use duct_definitions::{Listed, ListedFan, ListedSection, RuleCount};
 use duct_units::{List, Name, NoMemory};
 use std::alloc::Global;
 use text_lines::{Text, number};
@@ -104,4 +104,25 @@ fn add_section(alloc: Global, text: &mut Text, section: &ListedSection) -> Resul
             damper.as_bytes(),
         ],
     )
+}
+
+/// The lines of the rules and how many pairs each refused.
+pub(crate) fn add_refusals(
+    alloc: Global,
+    text: &mut Text,
+    refusals: &[RuleCount],
+) -> Result<(), NoMemory>
+    ensures { OnOk result (text.new ≡ text.old ++ flat_map refused_line refusals.now) }
+{
+    for rule in refusals {
+        add_refusal(alloc, text, rule)?;
+    }
+    Ok(())
+}
+
+fn add_refusal(alloc: Global, text: &mut Text, rule: &RuleCount) -> Result<(), NoMemory>
+    ensures { OnOk result (text.new ≡ text.old ++ refused_line rule.now) }
+{
+    let count = number(alloc, rule.count)?;
+    text.line(b"refused", &[rule.name.bytes(), count.as_bytes()])
 }
