@@ -5,9 +5,16 @@ use Rattle.duct_definitions.specs.declared.design.Design.{Design}
 use Rattle.duct_definitions.specs.Network.{Network}
 use Rattle.duct_definitions.specs.DesignText.{text, listed}
 use Rattle.duct_definitions.proofs.OrderLaws.{best_is_one}
-use Rattle.duct_cli.specs.Words.{Command, pick, command_of, files_of}
+use Rattle.file_definitions.specs.Document.{document_of}
+use Rattle.project_file.specs.Raised.{migrating_bytes}
+use Rattle.size_catalogue.specs.Reading.{sizes_of}
+use Rattle.friction_maker.specs.Making.{air_of, made_of}
+use Rattle.duct_cli.specs.declared.status.TheConstants.{REFUSED_WORDS}
+use Rattle.duct_cli.specs.RefusalText.{words_line}
+use Rattle.duct_cli.specs.Taking.{first_too_long}
+use Rattle.duct_cli.specs.Words.{Command, FrictionWords, pick, migrate, friction, command_of, files_of}
 use Rattle.network_file.specs.NetworkFile.{network_of}
-use Rattle.duct_cli.specs.Answer.{Says, AnswersDesign, AnswersNetwork, AnswersFiles, AnswersCommand, first_too_long, IsAnswer}
+use Rattle.duct_cli.specs.Answer.{Says, AnswersDesign, AnswersNetwork, AnswersMigration, AnswersFriction, AnswersFiles, AnswersCommand, AreOneText, IsAnswer}
 
 -- two statuses are one, and so are their texts
 abbrev AreOne : ℕ → ℕ → List ℕ → List ℕ → Type 0
@@ -39,16 +46,52 @@ network_once : (bytes : List ℕ) (s t : ℕ) (one other : List ℕ) → Answers
 network_once bytes s t one other =
     result_once (network_of bytes) _ _ _ _ (AreOne s t one other) (λ net. design_once net s t one other) (λ fault. says_once _ _ s t one other)
 
+migration_once : (bytes : List ℕ) (s t : ℕ) (one other : List ℕ) → AnswersMigration bytes s one → AnswersMigration bytes t other
+    → (s ≡ t) × (document_of one ≡ document_of other)
+migration_once bytes s t one other =
+    result_once (migrating_bytes bytes) _ _ _ _ ((s ≡ t) × (document_of one ≡ document_of other))
+    (λ document says again. (says.0 ∙ sym again.0, says.1 ∙ sym again.1))
+    (λ fault says again. let same = says_once _ _ s t one other says again in (same.0, ap document_of same.1))
+
+friction_once : (words : FrictionWords) (sizes ducts : List ℕ) (s t : ℕ) (one other : List ℕ) → AnswersFriction words sizes ducts s one → AnswersFriction words sizes ducts t other
+    → AreOne s t one other
+friction_once words sizes ducts s t one other =
+    result_once (sizes_of sizes) _ _ _ _ (AreOne s t one other)
+    (λ catalogue. result_once (made_of catalogue (air_of words.density words.viscosity) ducts) _ _ _ _ (AreOne s t one other)
+    (λ rows. says_once _ _ s t one other) (λ fault. says_once _ _ s t one other))
+    (λ fault. says_once _ _ s t one other)
+
 files_once : (contents : List ℕ → List ℕ) (command : Command) (s t : ℕ) (one other : List ℕ)
-    → AnswersFiles contents command s one → AnswersFiles contents command t other → AreOne s t one other
+    → AnswersFiles contents command s one → AnswersFiles contents command t other → (s ≡ t) × AreOneText (Some command) one other
 files_once contents (pick network) s t one other = network_once (contents network) s t one other
+files_once contents (migrate project) s t one other = migration_once (contents project) s t one other
+files_once contents (friction words) s t one other = friction_once words (contents words.sizes) (contents words.ducts) s t one other
+
+-- one text is one text of any command
+one_text : (command : Option Command) (one other : List ℕ) → one ≡ other → AreOneText command one other
+one_text None one other same = same
+one_text (Some (pick network)) one other same = same
+one_text (Some (migrate project)) one other same = ap document_of same
+one_text (Some (friction words)) one other same = same
+
+says_one : (command : Option Command) (status : ℕ) (said : List ℕ) (s t : ℕ) (one other : List ℕ) → Says status said s one → Says status said t other
+    → (s ≡ t) × AreOneText command one other
+says_one command status said s t one other says again =
+    let same = says_once status said s t one other says again in (same.0, one_text command one other same.1)
 
 command_once : (contents : List ℕ → List ℕ) (command : Command) (s t : ℕ) (one other : List ℕ)
-    → AnswersCommand contents command s one → AnswersCommand contents command t other → AreOne s t one other
+    → AnswersCommand contents command s one → AnswersCommand contents command t other → (s ≡ t) × AreOneText (Some command) one other
 command_once contents command s t one other =
-    option_once (first_too_long contents (files_of command)) _ _ _ _ (AreOne s t one other) (files_once contents command s t one other) (λ file. says_once _ _ s t one other)
+    option_once (first_too_long contents (files_of command)) _ _ _ _ ((s ≡ t) × AreOneText (Some command) one other)
+    (files_once contents command s t one other) (λ file. says_one (Some command) _ _ s t one other)
+
+words_once : (asked : Option Command) (contents : List ℕ → List ℕ) (s t : ℕ) (one other : List ℕ)
+    → MatchOption asked (Says REFUSED_WORDS words_line s one) (λ command. AnswersCommand contents command s one)
+    → MatchOption asked (Says REFUSED_WORDS words_line t other) (λ command. AnswersCommand contents command t other)
+    → (s ≡ t) × AreOneText asked one other
+words_once None contents s t one other = says_one None _ _ s t one other
+words_once (Some command) contents s t one other = command_once contents command s t one other
 
 pub answer_once : (words : List (List ℕ)) (contents : List ℕ → List ℕ) (s t : ℕ) (one other : List ℕ)
-    → IsAnswer words contents s one → IsAnswer words contents t other → (s ≡ t) × (one ≡ other)
-answer_once words contents s t one other =
-    option_once (command_of words) _ _ _ _ (AreOne s t one other) (says_once _ _ s t one other) (λ command. command_once contents command s t one other)
+    → IsAnswer words contents s one → IsAnswer words contents t other → (s ≡ t) × AreOneText (command_of words) one other
+answer_once words contents s t one other = words_once (command_of words) contents s t one other

@@ -1,2 +1,4 @@
+pub mod TakingLaws
+pub mod ReplyLaws
 pub mod RunLaws
 pub mod AnswerLaws

@@ -1,5 +1,6 @@
 -- From the reply of a command to what a failed write leaves.
-use Rattle.std.proofs.Common.{◌≡◌, ℕ, List, Option, Some, None, IfSome, inl, subst, refl}
+use Rattle.std.proofs.Common.{◌≡◌, ◌≢◌, ◌⊎◌, ℕ, ◌<◌, ◌≤◌, List, Option, Some, None, IfSome, arith, inl, inr, subst, sym, ◌∙◌, refl}
+use Rattle.std.specs.Io.KnownBytes.{Appends}
 use Rattle.std.specs.Prelude.{MatchOption}
 use Rattle.duct_ports.specs.Reading.{Contents}
 use Rattle.duct_ports.specs.Writing.{AppendsPart}
@@ -7,11 +8,11 @@ use Rattle.duct_cli.specs.Words.{Command, command_of}
 use Rattle.duct_cli.specs.RefusalText.{words_line}
 use Rattle.duct_cli.specs.Answer.{IsAnswer, AnswersCommand, Says}
 use Rattle.duct_cli.specs.Reply.{IsReply, IsCommandReply, IsAnswered}
-use Rattle.duct_cli.specs.declared.reply.Answer.{Answer}
-use Rattle.duct_cli.specs.declared.status.TheConstants.{REFUSED_WORDS}
+use Rattle.duct_cli.specs.declared.answers.Answer.{Answer}
+use Rattle.duct_cli.specs.declared.status.TheConstants.{REFUSED_WORDS, READ_FAULT, WRITE_FAULT, OUT_OF_MEMORY}
 use Rattle.duct_cli.specs.declared.reply.Reply.{Reply}
 use Rattle.duct_cli.specs.declared.reply.Reply.TheVariants as reply
-use Rattle.duct_cli.specs.Run.{AnswersPart}
+use Rattle.duct_cli.specs.Run.{Answers, AnswersPart}
 
 -- what the command answers is the answer to its words
 answer_of : (o : Option Command) (held : Option Contents) (a : Answer)
@@ -48,3 +49,35 @@ none_of (Some command) held MayFault replied = absurd replied
 -- only refused words are told as such
 pub refused_is : (words : List (List ℕ)) (held : Option Contents) (MayFault : Type 0) → IsReply words held MayFault reply.RefusedWords → command_of words ≡ None
 refused_is words held MayFault replied = none_of (command_of words) held MayFault replied
+
+-- ---- the status that was finished with
+
+below_of : (o : Option Command) (held : Option Contents) (MayFault : Type 0) (a : Answer)
+    → MatchOption o (◌≡◌ {A = Reply} (reply.Answered a) reply.RefusedWords) (λ command. IsAnswered command held a.status a.text)
+    → (a.status < READ_FAULT) × (a.status ≢ REFUSED_WORDS)
+below_of None held MayFault a other = absurd (cc)
+below_of (Some command) held MayFault a answered = (answered.status_below, answered.status_other)
+
+-- the status of an answer is neither a fault's nor that of refused words
+pub answered_below : (words : List (List ℕ)) (held : Option Contents) (MayFault : Type 0) (a : Answer)
+    → IsReply words held MayFault (reply.Answered a) → (a.status < READ_FAULT) × (a.status ≢ REFUSED_WORDS)
+answered_below words held MayFault a replied = below_of (command_of words) held MayFault a replied
+
+module _ (result status : ℕ) (below : status < READ_FAULT) (known : (result ≡ status) ⊎ (result ≡ WRITE_FAULT)) where
+  pub known_most : result ≤ OUT_OF_MEMORY
+  known_most = elim known [ inl is ↦ omega arith | inr is ↦ omega arith ]
+
+  pub known_status : result < READ_FAULT → result ≡ status
+  known_status less = elim known [ inl is ↦ is | inr is ↦ absurd (omega arith) ]
+
+  pub known_other : (n : ℕ) → READ_FAULT ≤ n → n ≢ WRITE_FAULT → result ≡ n → ⊥
+  known_other n most other here = elim known [ inl is ↦ omega arith | inr is ↦ other (sym here ∙ is) ]
+
+  pub known_refused : status ≢ REFUSED_WORDS → result ≡ REFUSED_WORDS → ⊥
+  known_refused other here = elim known [ inl is ↦ other (sym is ∙ here) | inr is ↦ omega arith ]
+
+-- the whole text was taken
+pub whole_of : (words : List (List ℕ)) (held : Option Contents) (old new : Option (List ℕ)) (result : ℕ) (a : Answer)
+    → IfSome held (λ contents. IsAnswer words contents a.status a.text) → result ≡ a.status → Appends old new a.text → Answers words held result old new
+whole_of words None old new result a answer same whole = tt
+whole_of words (Some contents) old new result a answer same whole = (a.text, subst (λ s. IsAnswer words contents s a.text) (sym same) answer, whole)

@@ -1,4 +1,6 @@
 pub mod Words
+pub mod WordsSeen
+pub mod Taking
 pub mod RefusalText
 pub mod Answer
 pub mod Reply

@@ -8,11 +8,14 @@ use Rattle.duct_units.specs.declared.fault.Reason.{Reason}
 use Rattle.duct_units.specs.declared.fault.Reason.TheVariants as reason
 use Rattle.duct_units.specs.Lines.{line}
 use Rattle.duct_cli.specs.declared.words.FileKind.{FileKind}
-use Rattle.duct_cli.specs.declared.words.FileKind.TheVariants.{Network}
+use Rattle.duct_cli.specs.declared.words.FileKind.TheVariants as file
 
 -- the word of a kind of file
 abbrev pub file_word : FileKind → List ℕ
-file_word Network = codes "network"
+file_word file.Network = codes "network"
+file_word file.Project = codes "project"
+file_word file.Sizes = codes "sizes"
+file_word file.Ducts = codes "ducts"
 
 -- the word of what a place counts
 abbrev pub part_word : Part → List ℕ
@@ -57,8 +60,8 @@ reason_word reason.Unbuilt = codes "unbuilt"
 
 -- the line of a file that is refused
 abbrev pub refusal_line : FileKind → Fault → List ℕ
-refusal_line file fault =
-    line (codes "refused") (file_word file ∷ part_word fault.part ∷ decimal fault.place ∷ reason_word fault.reason ∷ [])
+refusal_line kind fault =
+    line (codes "refused") (file_word kind ∷ part_word fault.part ∷ decimal fault.place ∷ reason_word fault.reason ∷ [])
 
 -- the line of refused words
 abbrev pub words_line : List ℕ

@@ -1,17 +1,11 @@
 -- What a command replies before anything is written.
 use Rattle.std.specs.Prelude.{◌≡◌, ◌≢◌, ℕ, ◌<◌, List, Option, IfSome, MatchOption}
 use Rattle.duct_ports.specs.Reading.{Contents}
-use Rattle.duct_cli.specs.declared.words.Command.{Command as Asked}
-use Rattle.duct_cli.specs.declared.words.Command.TheVariants.{Pick}
 use Rattle.duct_cli.specs.declared.reply.Reply.{Reply}
 use Rattle.duct_cli.specs.declared.reply.Reply.TheVariants as reply
 use Rattle.duct_cli.specs.declared.status.TheConstants.{READ_FAULT, REFUSED_WORDS}
 use Rattle.duct_cli.specs.Answer.{AnswersCommand}
-use Rattle.duct_cli.specs.Words.{Command, pick, command_of}
-
--- the command, wherever its words lie in memory
-abbrev pub command_seen : Asked → Command
-command_seen (Pick network) = pick network.now
+use Rattle.duct_cli.specs.Words.{Command, command_of}
 
 -- the answer of a command, with a status that neither a fault nor refused words have
 pub record IsAnswered (command : Command) (held : Option Contents) (status : ℕ) (text : List ℕ) : Type 0 where

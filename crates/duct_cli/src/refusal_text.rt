@@ -57,6 +57,9 @@ fn file_word(file: FileKind) -> &'static [u8]
 {
     match file {
         FileKind::Network => b"network",
+        FileKind::Project => b"project",
+        FileKind::Sizes => b"sizes",
+        FileKind::Ducts => b"ducts",
     }
 }
 

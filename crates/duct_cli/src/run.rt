@@ -13,9 +13,9 @@ use crate::status::{OUT_OF_MEMORY, READ_FAULT, REFUSED_WORDS, WRITE_FAULT};
 use duct_ports::{Files, Sink, write_all};
 use std::alloc::Global;
 
-/// Answers the words, from files to a sink, and gives the status: 0 with a design, 1 with a refusal of bytes, 2 with
-/// the line of refused words, 3 where no design meets the rules, 4 after a fault of the files, 5 after a fault of the
-/// sink, and 6 where memory ran out (`status.rt`).
+/// Answers the words, from files to a sink, and gives the status: 0 with a design or a file that was made, 1 with a
+/// refusal of bytes, 2 with the line of refused words, 3 where no design meets the rules, 4 after a fault of the files,
+/// 5 after a fault of the sink, and 6 where memory ran out (`status.rt`).
 pub fn run<'w, F: Files<'w>, W: Sink>(
     alloc: Global,
     words: &'w [String],

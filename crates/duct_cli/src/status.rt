@@ -1,6 +1,6 @@
 //! The statuses that the program ends with (docs/FORMATS.md, "Statuses").
 
-/// A design was found.
+/// A design was found, or a file was made.
 pub const FOUND: u8 = 0;
 
 /// The bytes of a file are refused.

@@ -52,6 +52,18 @@ words,pick,one.toml,two.toml -> 2 refused words|
 words,Pick,one.toml -> 2 refused words|
 words,--help -> 2 refused words|
 words,design,one.toml -> 2 refused words|
+words,migrate -> 2 refused words|
+words,migrate,one.toml,one.toml -> 2 refused words|
+words,friction,one.toml,one.toml,1200 -> 2 refused words|
+words,friction,one.toml,-o,1200,18000 -> 2 refused words|
+words,friction,one.toml,one.toml,0,18000 -> 2 refused words|
+words,friction,one.toml,one.toml,2001,18000 -> 2 refused words|
+words,friction,one.toml,one.toml,01200,18000 -> 2 refused words|
+words,friction,one.toml,one.toml,1200,0 -> 2 refused words|
+words,friction,one.toml,one.toml,1200,100001 -> 2 refused words|
+words,migrate,one.toml -> 1 refused project file 0 key|
+words,friction,one.toml,one.toml,1200,18000 -> 1 refused sizes row 1 header|
+words,friction,two.toml,one.toml,1200,18000 -> 4 fault read|
 room 0 words,pick -> 5
 words,pick,two.toml -> 4 fault read|
 ";
@@ -69,13 +81,15 @@ fn each_run_has_its_status_and_its_text(rt: HostRuntime) -> Result<(), Fail> {
 }
 
 #[test]
-fn a_sink_that_takes_a_byte_at_a_time_has_a_front_of_the_text(rt: HostRuntime) -> Result<(), Fail> {
-    let mut front = String::from_str(rt.alloc(), "5 ")?;
+fn a_sink_that_takes_a_byte_at_a_time_has_a_prefix_of_the_text(
+    rt: HostRuntime,
+) -> Result<(), Fail> {
+    let mut prefix = String::from_str(rt.alloc(), "5 ")?;
     for (room, next) in DESIGN.chars().enumerate() {
         let case = format!(in rt.alloc(); "room {room}")?;
         let found = outcome(rt.alloc(), case.as_str())?;
-        assert_eq!(rt; found.as_str(), front.as_str(), "at {case}");
-        front.push(next)?;
+        assert_eq!(rt; found.as_str(), prefix.as_str(), "at {case}");
+        prefix.push(next)?;
     }
     Ok(())
 }

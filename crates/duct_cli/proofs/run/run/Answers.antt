@@ -1,8 +1,11 @@
-use Rattle.std.proofs.Common.{ℕ, List, Option, map, string_bytes, subst}
+use Rattle.std.proofs.Common.{◌≡◌, ◌≢◌, ◌<◌, ◌⊎◌, ℕ, List, Option, arith, inl, inr, map, string_bytes, subst, sym}
+use Rattle.std.specs.Io.KnownBytes.{Appends}
 use Rattle.duct_ports.specs.Faults.{Rose}
 use Rattle.duct_ports.specs.Reading.{Contents}
 use Rattle.duct_ports.specs.Writing.{AppendsPart}
-use Rattle.duct_cli.proofs.RunLaws.{answered_is, part_of, refused_is, refused_part}
+use Rattle.duct_cli.proofs.RunLaws.{answered_is, answered_below, known_most, known_status, known_other, known_refused, part_of, refused_is, refused_part, whole_of}
+use Rattle.duct_cli.specs.declared.status.TheConstants.{READ_FAULT, REFUSED_WORDS}
+use Rattle.duct_cli.proofs.run.run.Given as given
 use Rattle.duct_cli.proofs.run.run.Goals as goal
 
 pub returns-in-RefusedWords-clause-write_fault : goal.returns-in-RefusedWords-clause-write_fault
@@ -24,3 +27,45 @@ returns-in-Answered-clause-write_fault g c = λ five.
           (answered_is words held MayFault c.in-Answered.answer c.in-Answered.ensures.reply)
           (subst (AppendsPart _ _) c.as_slice.ensures part.1),
     )
+
+-- the status of the answer is neither a fault's nor that of refused words
+below : (g : given.Over) (c : goal.After-drop-answer g) → (c.in-Answered.answer.status < READ_FAULT) × (c.in-Answered.answer.status ≢ REFUSED_WORDS)
+below g c =
+    answered_below (map string_bytes c.args.words.now) (g.F.Files.held c.args.files.now)
+    (Rose (g.F.Files.fault_count c.args.files.now) (g.F.Files.fault_count c.reply_to.new.files)) c.in-Answered.answer c.in-Answered.ensures.reply
+
+pub returns-in-Answered-clause-status : goal.returns-in-Answered-clause-status
+returns-in-Answered-clause-status g c =
+    known_most c.finish-in-Answered.result c.in-Answered.answer.status (below g c).0 c.finish-in-Answered.ensures.known
+
+pub returns-in-Answered-clause-answer : goal.returns-in-Answered-clause-answer
+returns-in-Answered-clause-answer g c = λ less.
+    let words : List (List ℕ) = map string_bytes c.args.words.now in
+    let held : Option Contents = g.F.Files.held c.args.files.now in
+    let a = c.in-Answered.answer in
+    let is = known_status c.finish-in-Answered.result a.status (below g c).0 c.finish-in-Answered.ensures.known less in
+    whole_of words held _ _ c.finish-in-Answered.result a (answered_is words held (Rose (g.F.Files.fault_count c.args.files.now) (g.F.Files.fault_count c.reply_to.new.files)) a c.in-Answered.ensures.reply) is
+    (subst (Appends _ _) c.as_slice.ensures (c.finish-in-Answered.ensures.written is))
+
+pub returns-in-Answered-clause-refused_words : goal.returns-in-Answered-clause-refused_words
+returns-in-Answered-clause-refused_words g c = λ two.
+    let low = below g c in
+    absurd (known_refused c.finish-in-Answered.result c.in-Answered.answer.status low.0 c.finish-in-Answered.ensures.known low.1 two)
+
+pub returns-in-Answered-clause-read_fault : goal.returns-in-Answered-clause-read_fault
+returns-in-Answered-clause-read_fault g c = λ four.
+    let low = below g c in
+    absurd (known_other c.finish-in-Answered.result c.in-Answered.answer.status low.0 c.finish-in-Answered.ensures.known _ (omega arith) (λ is. omega arith) four)
+
+pub returns-in-Answered-clause-complete : goal.returns-in-Answered-clause-complete
+returns-in-Answered-clause-complete g c = λ read written.
+    let low = below g c in
+    elim c.finish-in-Answered.ensures.known [
+      | inl is ↦ inl (subst (λ (s : ℕ). s < READ_FAULT) (sym is) low.0)
+      | inr is ↦ absurd (written (c.finish-in-Answered.ensures.part is).0)
+    ]
+
+pub returns-in-Answered-clause-memory : goal.returns-in-Answered-clause-memory
+returns-in-Answered-clause-memory g c = λ six.
+    let low = below g c in
+    absurd (known_other c.finish-in-Answered.result c.in-Answered.answer.status low.0 c.finish-in-Answered.ensures.known _ (omega arith) (λ is. omega arith) six)

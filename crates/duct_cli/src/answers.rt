@@ -1,0 +1,162 @@
+//! What each command answers for the bytes of its files.
+ghost use Rattle.std.specs.Prelude.{◌≡◌, ◌≢◌, ◌<◌, length, map, IfOk};
+ghost use Rattle.duct_definitions.specs.Designs.{Meets};
+ghost use Rattle.duct_definitions.specs.Balance.{IsBalanced};
+ghost use Rattle.duct_definitions.specs.DesignText.{text, listed};
+ghost use Rattle.duct_ports.specs.Reading.{Contents};
+ghost use Rattle.duct_cli.specs.Answer.{AnswersDesign, AnswersDucts, AnswersFiles, AnswersFriction, AnswersMigration, AnswersNetwork};
+ghost use Rattle.duct_cli.specs.RefusalText.{refusal_line};
+ghost use Rattle.duct_cli.specs.Words.{files_of, names_of, HasAir, IsAirInBounds};
+ghost use Rattle.duct_cli.specs.WordsSeen.{command_seen, friction_seen};
+
+use crate::refusal_text::refusal_text;
+use crate::status::{FOUND, NONE_FOUND, READ_FAULT, REFUSED, REFUSED_WORDS};
+use crate::words::{Command, FileKind, FrictionWords};
+use damper_balance::balance;
+use design_laws::dampers_balance_every_path;
+use design_text::{print, print_none};
+use duct_definitions::Design;
+use duct_units::{Fault, List, NoMemory, ReadError};
+use friction_maker::{make_friction, rows_text};
+use net_model::Network;
+use net_model::laws::network_is_valid;
+use network_file::read_network;
+use project_file::migrate;
+use size_catalogue::{Sizes, read_sizes};
+use std::alloc::Global;
+use t_method::best_design;
+
+/// A status and a text.
+#[derive(Drop)]
+pub struct Answer {
+    /// The status that the program ends with (docs/FORMATS.md, "Statuses").
+    pub status: u8,
+    /// The whole text that it writes.
+    pub text: List<u8>,
+}
+
+/// The answer of a command for the bytes of its files, in the order in which they are taken.
+pub fn answer_command(
+    alloc: Global,
+    command: &Command<'_>,
+    bytes: &[List<u8>],
+) -> Result<Answer, NoMemory>
+    requires files { length bytes.now ≡ length (files_of (command_seen command.now)) }
+    requires air { HasAir (command_seen command.now) }
+    ensures answer { IfOk result (λ a. (contents : Contents) → bytes.now ≡ map contents (names_of (command_seen command.now))
+        → AnswersFiles contents (command_seen command.now) a.status a.text) }
+    ensures status { IfOk result (λ a. (a.status < READ_FAULT) × (a.status ≢ REFUSED_WORDS)) }
+{
+    match command {
+        Command::Pick(_) => answer_network(alloc, bytes[0].as_slice()),
+        Command::Migrate(_) => answer_migration(alloc, bytes[0].as_slice()),
+        Command::Friction(words) => {
+            answer_friction(alloc, words, bytes[0].as_slice(), bytes[1].as_slice())
+        }
+    }
+}
+
+/// The line of a file that is refused.
+pub fn refused(alloc: Global, file: FileKind, fault: &Fault) -> Result<Answer, NoMemory>
+    ensures { IfOk result (λ a. (a.status ≡ REFUSED) × (a.text ≡ refusal_line file fault.now)) }
+{
+    Ok(Answer {
+        status: REFUSED,
+        text: refusal_text(alloc, file, fault)?,
+    })
+}
+
+/// The answer for the bytes of a project file that is to be migrated.
+fn answer_migration(alloc: Global, bytes: &[u8]) -> Result<Answer, NoMemory>
+    ensures answer { IfOk result (λ a. AnswersMigration bytes.now a.status a.text) }
+    ensures status { IfOk result (λ a. (a.status < READ_FAULT) × (a.status ≢ REFUSED_WORDS)) }
+{
+    match migrate(alloc, bytes) {
+        Ok(text) => Ok(Answer {
+            status: FOUND,
+            text,
+        }),
+        Err(ReadError::Refused(fault)) => refused(alloc, FileKind::Project, &fault),
+        Err(ReadError::NoMemory) => Err(NoMemory),
+    }
+}
+
+/// The answer for the bytes of a catalogue and of its ducts.
+fn answer_friction(
+    alloc: Global,
+    words: &FrictionWords<'_>,
+    sizes: &[u8],
+    ducts: &[u8],
+) -> Result<Answer, NoMemory>
+    requires { IsAirInBounds words.now.density words.now.viscosity }
+    ensures answer { IfOk result (λ a. AnswersFriction (friction_seen words.now) sizes.now ducts.now a.status a.text) }
+    ensures status { IfOk result (λ a. (a.status < READ_FAULT) × (a.status ≢ REFUSED_WORDS)) }
+{
+    match read_sizes(alloc, sizes) {
+        Ok(sizes) => answer_ducts(alloc, words, &sizes, ducts),
+        Err(ReadError::Refused(fault)) => refused(alloc, FileKind::Sizes, &fault),
+        Err(ReadError::NoMemory) => Err(NoMemory),
+    }
+}
+
+/// The answer for the bytes of the ducts of a catalogue.
+fn answer_ducts(
+    alloc: Global,
+    words: &FrictionWords<'_>,
+    sizes: &Sizes,
+    ducts: &[u8],
+) -> Result<Answer, NoMemory>
+    requires { IsAirInBounds words.now.density words.now.viscosity }
+    ensures answer { IfOk result (λ a. AnswersDucts (friction_seen words.now) sizes.now ducts.now a.status a.text) }
+    ensures status { IfOk result (λ a. (a.status < READ_FAULT) × (a.status ≢ REFUSED_WORDS)) }
+{
+    match make_friction(alloc, sizes, ducts, words.density, words.viscosity) {
+        Ok(rows) => Ok(Answer {
+            status: FOUND,
+            text: rows_text(alloc, sizes, &rows)?,
+        }),
+        Err(ReadError::Refused(fault)) => refused(alloc, FileKind::Ducts, &fault),
+        Err(ReadError::NoMemory) => Err(NoMemory),
+    }
+}
+
+/// The answer for the bytes of a network file.
+fn answer_network(alloc: Global, bytes: &[u8]) -> Result<Answer, NoMemory>
+    ensures answer { IfOk result (λ a. AnswersNetwork bytes.now a.status a.text) }
+    ensures status { IfOk result (λ a. (a.status < READ_FAULT) × (a.status ≢ REFUSED_WORDS)) }
+{
+    match read_network(alloc, bytes) {
+        Ok(net) => answer_design(alloc, &net),
+        Err(ReadError::Refused(fault)) => refused(alloc, FileKind::Network, &fault),
+        Err(ReadError::NoMemory) => Err(NoMemory),
+    }
+}
+
+/// The best design, or none.
+fn answer_design(alloc: Global, net: &Network) -> Result<Answer, NoMemory>
+    ensures answer { IfOk result (λ a. AnswersDesign net.now a.status a.text) }
+    ensures status { IfOk result (λ a. (a.status < READ_FAULT) × (a.status ≢ REFUSED_WORDS)) }
+{
+    match best_design(alloc, net)? {
+        Some(best) => Ok(Answer {
+            status: FOUND,
+            text: design_text(alloc, net, &best)?,
+        }),
+        None => Ok(Answer {
+            status: NONE_FOUND,
+            text: print_none(alloc, &net.name(), &[])?,
+        }),
+    }
+}
+
+/// The text of a design, with its heads and dampers, which balance every path.
+fn design_text(alloc: Global, net: &Network, d: &Design) -> Result<List<u8>, NoMemory>
+    requires { Meets net.now d.now }
+    ensures text { IfOk result (λ answer. answer ≡ text (listed net.now d.now)) }
+    ensures balanced { IsBalanced net.now d.now }
+{
+    dampers_balance_every_path();
+    network_is_valid(net);
+    let dampers = balance(alloc, net, d)?;
+    print(alloc, net, d, &dampers)
+}
