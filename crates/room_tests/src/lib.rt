@@ -4,9 +4,27 @@
 #![tactic(auto)]
 
 #[cfg(test)]
+mod condensing;
+#[cfg(test)]
+mod counters;
+#[cfg(test)]
+mod fans;
+#[cfg(test)]
+mod fittings;
+#[cfg(test)]
+mod flows;
+#[cfg(test)]
 mod friction;
 #[cfg(test)]
 mod fronts;
+#[cfg(test)]
+mod made_friction;
+#[cfg(test)]
+mod many_workers;
+#[cfg(test)]
+mod projects;
+#[cfg(test)]
+mod schedule;
 #[cfg(test)]
 mod sizes;
 #[cfg(test)]

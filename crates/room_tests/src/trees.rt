@@ -37,7 +37,8 @@ fn copied(alloc: Global, tree: &AirTree) -> Result<AirTree, NoMemory> {
     tree.copy(alloc)
 }
 
-fn tree_of(alloc: Global, text: &str) -> Result<AirTree, Fail> {
+/// The tree of the sections, as a case spells them.
+pub fn tree_of(alloc: Global, text: &str) -> Result<AirTree, Fail> {
     let mut neighbours = Vec::new(alloc);
     let mut sides = Vec::new(alloc);
     for word in text.split_whitespace() {
