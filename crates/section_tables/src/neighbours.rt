@@ -22,14 +22,10 @@ pub fn read_neighbours(
         (unless_refused (first_broken (all_neighbour_rules sections.now))
         (map (neighbour_of sections.now) sections.now)) }
 {
-    let mut neighbours = Vec::with_capacity(alloc, sections.len()).map_err(
-        |_| ReadError::NoMemory,
-    )?;
+    let mut neighbours = Vec::with_capacity(alloc, sections.len())?;
     for i in 0..sections.len() {
         let neighbour = find_neighbour(sections[i].neighbour, names, i as u32 + 1)?;
-        if neighbours.push(neighbour).is_err() {
-            return Err(ReadError::NoMemory);
-        }
+        neighbours.push(neighbour)?;
     }
     Ok(List::from_vec(neighbours))
 }
