@@ -3,20 +3,23 @@
 --   own_loss_of          the same but for the junction
 --   junction_loss_of     what the junction loses, or gains where it is below 0
 --   together_of          both, and 0 where they are below 0
-use Rattle.std.specs.Prelude.{ℕ, ◌+◌, ◌*◌, ℤ, pos, negsuc, ◌+ℤ◌, List, Option, None, Some, option_map}
-use Rattle.std.specs.Int.{div_ceil}
+use Rattle.std.specs.Prelude.{ℕ, ◌+◌, ℤ, pos, negsuc, ◌+ℤ◌, List, Option, None, Some, option_map}
 use Rattle.friction_table.specs.declared.row.FlowRate.{FlowRate}
 use Rattle.friction_table.specs.Loss.{friction_loss}
 use Rattle.fitting_tables.specs.Coefficient.{coefficient_of}
 use Rattle.fitting_tables.specs.Fittings.{Tables, cells_of}
 use Rattle.size_catalogue.specs.declared.row.Size.{Size}
 use Rattle.section_loss.specs.declared.facts.SectionFacts.{SectionFacts}
-use Rattle.section_loss.specs.Fitting.{fitting_loss_of, ratio_of, velocity_product}
+use Rattle.section_loss.specs.Fitting.{fitting_loss_of, ratio_of}
+
+-- a loss below 0 counts as 0
+abbrev pub at_least_0 : ℤ → ℕ
+at_least_0 (pos n) = n
+at_least_0 (negsuc n) = 0
 
 -- what the local coefficient loses in the section's own size, as any fitting does
 abbrev pub local_loss_of : SectionFacts → Size → ℕ
-local_loss_of facts size =
-    div_ceil (facts.local * velocity_product facts.density facts.flow) (size.area * size.area)
+local_loss_of facts size = at_least_0 (fitting_loss_of facts.density facts.flow size.area (pos facts.local))
 
 -- friction, local loss and device, each rounded by itself; none where the size has no friction at the airflow
 abbrev pub own_loss_of : SectionFacts → List FlowRate → Size → Option ℕ
@@ -44,11 +47,6 @@ junction_loss_at facts tables size (Some table) (Some beside) = junction_loss_be
 -- what the section's junction loses beside a size of its neighbour
 abbrev pub junction_loss_of : SectionFacts → Tables → Size → Option Size → ℤ
 junction_loss_of facts tables size beside = junction_loss_at facts tables size facts.table beside
-
--- a sum below 0 counts as 0
-abbrev pub at_least_0 : ℤ → ℕ
-at_least_0 (pos n) = n
-at_least_0 (negsuc n) = 0
 
 -- what a section loses by itself and at its junction; a sum below 0 counts as 0
 abbrev pub together_of : ℕ → ℤ → ℕ
