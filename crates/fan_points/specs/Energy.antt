@@ -1,11 +1,11 @@
 -- At which airflows a fan serves, and what its energy is worth.
---   Serves fan q           the airflow lies from the fan's low to its high
+--   Serves fan q           the airflow lies from the fan's low to its high; serves q fan as a truth
 --   IsEnergy terms         hours, tariff and worth lie within their bounds
 --   energy_product         W by hours by tariff by worth
 --   energy_of fan terms    that over the units, rounded up to whole cents
 --   IsEnergyCost           the least whole number of cents that is enough
 --   EnergyCosts            at these numbers energy costs so many cents, and no other whole number
-use Rattle.std.specs.Prelude.{◌≡◌, ◌↔◌, ℕ, ◌*◌, ◌≤◌, pos}
+use Rattle.std.specs.Prelude.{◌≡◌, ◌↔◌, ℕ, ◌*◌, ◌≤◌, nat_le, Bool, ◌&&◌, pos}
 use Rattle.std.specs.Int.{div_ceil}
 use Rattle.duct_units.specs.Ceiling.{IsCeiling}
 use Rattle.fan_points.specs.declared.limits.TheConstants.{MAX_HOURS, MAX_TARIFF, MAX_WORTH, ENERGY_UNITS}
@@ -15,6 +15,10 @@ use Rattle.fan_points.specs.declared.terms.Energy.{Energy}
 -- the airflow lies from the fan's low to its high
 abbrev pub Serves : FanRow → ℕ → Type 0
 Serves fan q = (fan.low ≤ q) × (q ≤ fan.high)
+
+-- the same as a truth
+abbrev pub serves : ℕ → FanRow → Bool
+serves q fan = nat_le fan.low q && nat_le q fan.high
 
 -- the terms lie within their bounds
 pub record IsEnergy (terms : Energy) : Type 0 where

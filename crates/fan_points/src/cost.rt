@@ -2,7 +2,7 @@
 ghost use Rattle.std.specs.Prelude.{◌≡◌, ◌↔◌, ◌≤◌, ◌+◌, IsTrue};
 ghost use Rattle.duct_definitions.specs.declared.limits.TheConstants.{MAX_FAN_COST};
 ghost use Rattle.fan_points.specs.FanRow.{IsFanInBounds};
-ghost use Rattle.fan_points.specs.Energy.{IsEnergy, IsEnergyCost, energy_of, Serves};
+ghost use Rattle.fan_points.specs.Energy.{IsEnergy, IsEnergyCost, energy_of, Serves, serves};
 
 use crate::limits::{ENERGY_UNITS, MAX_ENERGY_COST};
 use crate::row::FanRow;
@@ -23,7 +23,8 @@ pub fn energy(fan: &FanRow, terms: &Energy) -> u64
 
 /// Whether the fan serves the airflow, l/s. Both ends of its range count.
 pub fn eligible(fan: &FanRow, q: u64) -> bool
-    ensures { IsTrue result ↔ Serves fan.now q }
+    ensures value { result ≡ serves q fan.now }
+    ensures range { IsTrue result ↔ Serves fan.now q }
 {
     fan.low <= q && q <= fan.high
 }

@@ -1,6 +1,6 @@
 -- What the catalogues answer to a question, which is a row of fields.
 --   answer_of            the answer of the call that the first field names; none where the row is no question
-use Rattle.std.specs.Prelude.{ℕ, ◌-◌, nat_le, nat_lt, ◌&&◌, ◌||◌, not, codes, Option, None, Some, is_some, slice_get, if◌then◌else◌}
+use Rattle.std.specs.Prelude.{ℕ, ◌-◌, nat_lt, ◌||◌, not, codes, Option, None, Some, is_some, slice_get, if◌then◌else◌}
 use Rattle.duct_units.specs.Options.{◌>>=◌}
 use Rattle.file_definitions.specs.Rows.{Row, has_field, name_field, number_field}
 use Rattle.name_index.specs.Places.{place_of}
@@ -13,7 +13,7 @@ use Rattle.fitting_tables.specs.Coefficient.{coefficient_of}
 use Rattle.fitting_tables.specs.Fittings.{cells_of}
 use Rattle.fan_points.specs.declared.limits.TheConstants.{MAX_POINTS, MAX_HOURS, MAX_TARIFF, MAX_WORTH}
 use Rattle.fan_points.specs.declared.row.FanRow.{FanRow}
-use Rattle.fan_points.specs.Energy.{energy_of}
+use Rattle.fan_points.specs.Energy.{energy_of, serves}
 use Rattle.section_loss.specs.declared.limits.TheConstants.{MIN_DENSITY, MAX_DENSITY, MAX_LOCAL, MAX_DEVICE}
 use Rattle.section_loss.specs.declared.facts.SectionFacts.{SectionFacts}
 use Rattle.section_loss.specs.Loss.{junction_loss_of, loss_of}
@@ -126,7 +126,7 @@ abbrev pub serves_answer : Catalogues → Row → Option Answer
 serves_answer catalogues row = do
   fan ← fan_at catalogues row 1
   flow ← number_field row 2 0 MOST
-  Some (Truth (nat_le fan.low flow && nat_le flow fan.high))
+  Some (Truth (serves flow fan))
 
 -- the answer of the call that the first field names; none where the row is no question
 abbrev pub answer_of : Catalogues → Row → Option Answer
