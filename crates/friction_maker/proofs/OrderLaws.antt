@@ -8,7 +8,8 @@ use Rattle.friction_table.specs.Rates.{AreRising, Rises}
 use Rattle.friction_table.proofs.RisingLaws.{AreRising-tail}
 use Rattle.friction_maker.specs.declared.air.Air.{Air}
 use Rattle.friction_maker.specs.declared.making.MadeRow.{MadeRow}
-use Rattle.friction_maker.specs.Making.{made_row, listed_from, listed, Follows, AreInOrder, IsMadeTable, AreMade, IsRowOf, AreRowsOf, AreOfSizes}
+use Rattle.friction_maker.specs.Making.{IsMadeTable, AreMade}
+use Rattle.friction_maker.specs.MadeRows.{made_row, listed_from, listed, Follows, AreInOrder, IsRowOf, AreRowsOf, AreOfSizes}
 
 -- ---- one table
 

@@ -1,4 +1,5 @@
 pub mod Rate
 pub mod DuctRow
 pub mod Making
+pub mod MadeRows
 pub mod RowsText

@@ -2,11 +2,8 @@
 --   made_table duct air flow rows   the rates of a duct at the airflow by 1, 2, .. up to the number of rows
 --   table_for                       the same of a row of the file and the size that it names
 --   tables_of sizes air bytes       the tables of a file's bytes, one for each size, or the refusal
---   listed tables                   the rows of all tables, by size number
---   made_of sizes air bytes         the rows of a file's bytes, or the refusal
---   AreInOrder rows                 they stand by size number; within a size airflows rise, and rates never fall
---   AreRowsOf, AreOfSizes           each rate is made and within its bounds; each row is of a size of the catalogue
-use Rattle.std.specs.Prelude.{◌≡◌, ℕ, ◌+◌, ◌*◌, ◌<◌, ◌≤◌, nat_le, ◌==◌, Bool, false, List, [], ◌∷◌, ◌++◌, length, map, replicate, codes, All, Option, Some, None, option_map, slice_get, slice_set, slice_index_or, unwrap_or, Result, Ok, Err}
+--   AreMade sizes air tables        a table for each size, and each rate in it is made
+use Rattle.std.specs.Prelude.{◌≡◌, ℕ, ◌*◌, ◌<◌, nat_le, ◌==◌, Bool, false, List, [], ◌∷◌, length, map, replicate, codes, All, Option, Some, None, option_map, slice_get, slice_set, slice_index_or, unwrap_or, Result}
 use Rattle.std.specs.List.{list_all, range_with_len}
 use Rattle.duct_units.specs.declared.fault.Fault.{Fault}
 use Rattle.duct_units.specs.declared.fault.Reason.TheVariants.{UnknownSize, Twice, Field}
@@ -16,13 +13,12 @@ use Rattle.name_index.specs.Places.{place_of}
 use Rattle.size_catalogue.specs.Catalogue.{Catalogue, names_of}
 use Rattle.friction_table.specs.declared.limits.TheConstants.{MAX_FLOW, MAX_RATE}
 use Rattle.friction_table.specs.declared.row.FlowRate.{FlowRate}
-use Rattle.friction_table.specs.Rates.{IsRate, IsTable}
+use Rattle.friction_table.specs.Rates.{IsTable}
 use Rattle.friction_table.specs.Reading.{table_of, row_of_each}
 use Rattle.friction_maker.specs.declared.air.Duct.{Duct}
 use Rattle.friction_maker.specs.declared.air.Air.{Air}
 use Rattle.friction_maker.specs.declared.row.DuctRow.{DuctRow}
 use Rattle.friction_maker.specs.DuctRow.{duct_of_row}
-use Rattle.friction_maker.specs.declared.making.MadeRow.{MadeRow}
 use Rattle.friction_maker.specs.Rate.{rate_of, IsDuct, IsMadeRate}
 
 -- ---- the rates of a size
@@ -94,42 +90,7 @@ ducts_form sizes air = record {
 abbrev pub tables_of : Catalogue → Air → List ℕ → Result (List (List FlowRate)) Fault
 tables_of sizes air bytes = reading (ducts_form sizes air) (rows_of bytes)
 
--- ---- the rows that are made
-
--- a row of a size
-abbrev pub made_row : ℕ → FlowRate → MadeRow
-made_row size at = record { size = size; flow = at.flow; rate = at.rate }
-
--- the rows of the tables of the sizes from n on
-abbrev pub listed_from : ℕ → List (List FlowRate) → List MadeRow
-listed_from n [] = []
-listed_from n (rows ∷ tables) = map (λ at. made_row n at) rows ++ listed_from (n + 1) tables
-
--- the rows of all tables, by size number
-abbrev pub listed : List (List FlowRate) → List MadeRow
-listed tables = listed_from 0 tables
-
--- the rows of the tables, or the refusal
-abbrev pub listed_unless : Result (List (List FlowRate)) Fault → Result (List MadeRow) Fault
-listed_unless (Ok tables) = Ok (listed tables)
-listed_unless (Err fault) = Err fault
-
--- the rows of a file's bytes, or the refusal
-abbrev pub made_of : Catalogue → Air → List ℕ → Result (List MadeRow) Fault
-made_of sizes air bytes = listed_unless (tables_of sizes air bytes)
-
--- ---- what is true of them
-
--- the row is of a later size; or of the same size, at a higher airflow, and its rate isn't lower
-pub record Follows (row next : MadeRow) : Type 0 where
-  pub size : row.size ≤ next.size
-  pub flow : row.size ≡ next.size → row.flow < next.flow
-  pub rate : row.size ≡ next.size → row.rate ≤ next.rate
-
--- of any two rows the later one follows the earlier
-abbrev pub AreInOrder : List MadeRow → Type 0
-AreInOrder [] = Unit {0}
-AreInOrder (row ∷ rows) = All (Follows row) rows × AreInOrder rows
+-- ---- what is true of the tables
 
 -- the rate is the one of a duct of the size's area at the airflow, rounded up
 pub record IsMadeFor (sizes : Catalogue) (air : Air) (size : ℕ) (at : FlowRate) : Type 0 where
@@ -147,16 +108,3 @@ pub record IsMadeTable (sizes : Catalogue) (air : Air) (size : ℕ) (rows : List
 pub record AreMade (sizes : Catalogue) (air : Air) (tables : List (List FlowRate)) : Type 0 where
   pub all : length tables ≡ length sizes.sizes
   pub each : (size : ℕ) (other : List FlowRate) → size < length tables → IsMadeTable sizes air size (slice_index_or tables size other)
-
--- a row of a friction file whose rate is made
-pub record IsRowOf (sizes : Catalogue) (air : Air) (row : MadeRow) : Type 0 where
-  pub bounds : IsRate (record { flow = row.flow; rate = row.rate })
-  pub rate : IsMadeFor sizes air row.size (record { flow = row.flow; rate = row.rate })
-
--- each row is one of these
-abbrev pub AreRowsOf : Catalogue → Air → List MadeRow → Type 0
-AreRowsOf sizes air rows = All (IsRowOf sizes air) rows
-
--- each row is of a size of the catalogue
-abbrev pub AreOfSizes : Catalogue → List MadeRow → Type 0
-AreOfSizes sizes rows = All (λ row. row.size < length sizes.sizes) rows

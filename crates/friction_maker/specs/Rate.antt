@@ -81,14 +81,14 @@ pub record IsMadeRate (duct : Duct) (air : Air) (flow rate : ℕ) : Type 0 where
   pub is_root : IsRoot duct air flow root
   pub is_rate : IsCeiling (pos (rate_num (corrected root) air flow)) (pos (rate_den duct)) (pos rate)
 
+-- the same as a number
+abbrev pub rate_of : Duct → Air → ℕ → ℕ
+rate_of duct air flow = div_ceil (rate_num (corrected (root_of duct air flow)) air flow) (rate_den duct)
+
 -- the whole number is at least the fraction, and less than one above it
 pub record IsJustAbove (num den n : ℕ) : Type 0 where
   pub at_least : num ≤ n * den
   pub near : n * den < num + den
-
--- the same as a number
-abbrev pub rate_of : Duct → Air → ℕ → ℕ
-rate_of duct air flow = div_ceil (rate_num (corrected (root_of duct air flow)) air flow) (rate_den duct)
 
 -- at this airflow the root is this and the rate that, and neither is any other whole number
 abbrev pub HasRate : Duct → Air → ℕ → ℕ → ℕ → Type 0

@@ -7,7 +7,8 @@ ghost use Rattle.file_definitions.specs.Rows.{TakesRow, TakesItem};
 ghost use Rattle.friction_table.specs.Reading.{table_of, row_of_each};
 ghost use Rattle.friction_maker.specs.DuctRow.{IsRowInBounds};
 ghost use Rattle.friction_maker.specs.Rate.{IsAir};
-ghost use Rattle.friction_maker.specs.Making.{ducts_form, made_row, listed, AreMade};
+ghost use Rattle.friction_maker.specs.Making.{ducts_form, AreMade};
+ghost use Rattle.friction_maker.specs.MadeRows.{made_row, listed};
 
 use crate::air::Air;
 use crate::limits::COLUMNS;

@@ -1,7 +1,7 @@
 //! The friction file of made rows.
 ghost use Rattle.std.specs.Prelude.{◌≡◌, ◌++◌, ◌<◌, length, IfOk, OnOk};
 ghost use Rattle.std.specs.List.{flat_map};
-ghost use Rattle.friction_maker.specs.Making.{AreOfSizes};
+ghost use Rattle.friction_maker.specs.MadeRows.{AreOfSizes};
 ghost use Rattle.friction_maker.specs.RowsText.{name_of_size, separated, row_line, rows_text};
 
 use crate::making::MadeRow;

@@ -1,5 +1,5 @@
 use Rattle.std.proofs.Common.{◌≡◌, ◌++◌, map, drop}
-use Rattle.friction_maker.specs.Making.{made_row}
+use Rattle.friction_maker.specs.MadeRows.{made_row}
 use Rattle.friction_maker.proofs.tables.add_rows.Given as goal
 
 -- the rows so far and those of the rates that are left are all the rows

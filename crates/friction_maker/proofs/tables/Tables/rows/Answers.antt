@@ -1,7 +1,7 @@
 use Rattle.std.proofs.Common.{◌≡◌, ◌<◌, ◌+◌, ◌++◌, length, map, drop, get_or, List, sym, ap, ◌∙◌, append_assoc, arith}
 use Rattle.friction_table.specs.declared.row.FlowRate.{FlowRate}
 use Rattle.friction_maker.specs.declared.making.MadeRow.{MadeRow}
-use Rattle.friction_maker.specs.Making.{made_row, listed_from}
+use Rattle.friction_maker.specs.MadeRows.{made_row, listed_from}
 use Rattle.friction_maker.proofs.OrderLaws.{listed-step}
 use Rattle.friction_maker.proofs.tables.Tables.rows.Goals as goal
 

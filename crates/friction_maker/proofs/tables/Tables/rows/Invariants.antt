@@ -1,5 +1,5 @@
 use Rattle.std.proofs.Common.{◌≡◌, ◌++◌, drop}
-use Rattle.friction_maker.specs.Making.{listed, listed_from}
+use Rattle.friction_maker.specs.MadeRows.{listed, listed_from}
 use Rattle.friction_maker.proofs.tables.Tables.rows.Given as goal
 
 -- the rows so far and those of the tables that are left are all the rows
