@@ -23,8 +23,8 @@ use Rattle.name_index.specs.Places.{is_among}
 use Rattle.design_rules.specs.Meanings.{Meaning}
 use Rattle.net_build.specs.declared.sections.SectionSizes.{SectionSizes}
 use Rattle.net_build.specs.Rows.{row_at}
-use Rattle.net_build.specs.Asking.{with_pairs_and_fans, none_counted, counts_of, added, added_from, refused_together}
-use Rattle.net_build.specs.Built.{built, network_of, network_and_refusals, pairs_of, section_pairs, size_names, names_of_numbers}
+use Rattle.net_build.specs.Asking.{none_counted, counts_of, added, added_from, refused_together}
+use Rattle.net_build.specs.Built.{built, network_of, network_and_refusals, pairs_of, section_pairs, size_names, names_of_numbers, with_pairs_and_fans}
 use Rattle.net_build.specs.Refusals.{refusals, refusal_count, refused_among, counts_from}
 use Rattle.net_build.specs.Catalogues.{Catalogues}
 use Rattle.net_build.specs.Fans.{offered}

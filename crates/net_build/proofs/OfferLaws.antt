@@ -8,7 +8,8 @@ use Rattle.duct_definitions.specs.Network.{AreNames, AreFans, IsFan}
 use Rattle.fan_points.specs.declared.row.FanRow.{FanRow}
 use Rattle.fan_points.specs.declared.terms.Energy.{Energy}
 use Rattle.fan_points.specs.Fans.{IsFans, names_of, IsFan as IsFanRow}
-use Rattle.net_build.specs.Fans.{serves, fan_at_cost, offered}
+use Rattle.fan_points.specs.Energy.{serves}
+use Rattle.net_build.specs.Fans.{fan_at_cost, offered}
 use Rattle.net_build.proofs.ListLaws.{taken}
 
 pub offered-more : (fans : List FanRow) (terms : Energy) (flow i : ℕ) (fan : FanRow) → slice_get fans i ≡ Some fan → offered (take i fans) terms flow ++ offered (fan ∷ []) terms flow ≡ offered (take (i + 1) fans) terms flow

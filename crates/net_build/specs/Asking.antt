@@ -3,14 +3,10 @@
 --   chosen c section k         one size of the section, with what it loses by itself and costs
 --   added by refusals          the counts, each risen by its number
 --   Asked n old new            the rules are the same, and none has refused more than n times more
-use Rattle.std.specs.Prelude.{ℕ, ◌+◌, ◌<◌, ◌≤◌, List, [], ◌∷◌, length, map, false, true, Option, All, IfSome, slice_index, sum_by}
+use Rattle.std.specs.Prelude.{ℕ, ◌+◌, ◌<◌, ◌≤◌, List, [], ◌∷◌, length, map, false, true, All, IfSome, slice_index, sum_by}
 use Rattle.std.specs.Option.{ForSome}
-use Rattle.duct_definitions.specs.declared.design.Pair.{Pair}
-use Rattle.duct_definitions.specs.declared.design.NetFan.{NetFan}
 use Rattle.duct_definitions.specs.declared.listed.RuleCount.{RuleCount}
-use Rattle.duct_definitions.specs.Network.{Network}
 use Rattle.duct_definitions.specs.Tree.{sections}
-use Rattle.project_file.specs.declared.project.Project.{Project}
 use Rattle.friction_table.specs.Reading.{table_of}
 use Rattle.size_catalogue.specs.declared.limits.TheConstants.{MAX_LIST_SIZES}
 use Rattle.duct_definitions.specs.declared.limits.TheConstants.{MAX_PRICE}
@@ -22,7 +18,6 @@ use Rattle.section_loss.specs.Price.{price_of}
 use Rattle.design_rules.specs.Meanings.{Meaning, SameRules}
 use Rattle.net_build.specs.declared.sections.SectionSizes.{SectionSizes}
 use Rattle.net_build.specs.declared.asking.ChosenSize.{ChosenSize}
-use Rattle.net_build.specs.Built.{size_names}
 use Rattle.net_build.specs.Catalogues.{Catalogues, size_at}
 use Rattle.net_build.specs.Pairs.{size_pairs}
 use Rattle.net_build.specs.Refusals.{refused_among}
@@ -82,15 +77,3 @@ refused_together c rules sections i =
 pub record Asked {B : Type 0} (allows : B → Meaning) (label : B → List ℕ) (count : B → ℕ) (n : ℕ) (old new : List B) : Type 0 where
   pub same : SameRules allows label old new
   pub risen : (i : ℕ) → slice_index (map count new) i ≤ slice_index (map count old) i + n
-
--- the network of the project with these pairs and fans
-abbrev pub with_pairs_and_fans : Project → Catalogues → List (List (Option Pair)) → List NetFan → Network
-with_pairs_and_fans p c pairs fans = record {
-  name = p.name;
-  tree = p.tree;
-  names = map (λ row. row.name) p.sections;
-  sizes = map (size_names p c) (sections p.tree);
-  pairs = pairs;
-  fans = fans;
-  return_fans = [];
-}

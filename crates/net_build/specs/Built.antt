@@ -5,6 +5,7 @@ use Rattle.std.specs.Prelude.{ℕ, List, [], map, Option, Result}
 use Rattle.duct_units.specs.declared.fault.Fault.{Fault}
 use Rattle.duct_units.specs.Rules.{first_broken, unless_refused}
 use Rattle.duct_definitions.specs.declared.design.Pair.{Pair}
+use Rattle.duct_definitions.specs.declared.design.NetFan.{NetFan}
 use Rattle.duct_definitions.specs.declared.listed.RuleCount.{RuleCount}
 use Rattle.duct_definitions.specs.Airflow.{fan_flow}
 use Rattle.duct_definitions.specs.Network.{Network}
@@ -36,18 +37,22 @@ pairs_of c rules section = map (pair_of c rules section) (size_pairs section)
 abbrev pub section_pairs : Project → Catalogues → List Meaning → ℕ → List (Option Pair)
 section_pairs p c rules s = pairs_of c rules (section_sizes p c s)
 
--- the tree of the project, the sizes of each section's list, the permitted pairs, and the fans that serve the airflow of
--- both sides, without return fans
-abbrev pub network_of : Project → Catalogues → List FanRow → List Meaning → Network
-network_of p c fans rules = record {
+-- the tree of the project and the sizes of each section's list, with these pairs and fans, without return fans
+abbrev pub with_pairs_and_fans : Project → Catalogues → List (List (Option Pair)) → List NetFan → Network
+with_pairs_and_fans p c pairs fans = record {
   name = p.name;
   tree = p.tree;
   names = map (λ row. row.name) p.sections;
   sizes = map (size_names p c) (sections p.tree);
-  pairs = map (section_pairs p c rules) (sections p.tree);
-  fans = offered fans p.energy (fan_flow p.flows);
+  pairs = pairs;
+  fans = fans;
   return_fans = [];
 }
+
+-- the same with the permitted pairs and the fans that serve the airflow of both sides
+abbrev pub network_of : Project → Catalogues → List FanRow → List Meaning → Network
+network_of p c fans rules =
+    with_pairs_and_fans p c (map (section_pairs p c rules) (sections p.tree)) (offered fans p.energy (fan_flow p.flows))
 
 -- the network, with how many pairs each rule refused
 abbrev pub network_and_refusals : Project → Catalogues → List FanRow → List Meaning → List (List ℕ) → Network × List RuleCount

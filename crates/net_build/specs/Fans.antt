@@ -1,15 +1,10 @@
 -- The fans on offer at an airflow.
---   serves fan flow                 the airflow lies in the fan's range
 --   offered fans terms flow         the fans that serve it, in order, each at its price and the cost of its energy
-use Rattle.std.specs.Prelude.{ℕ, ◌+◌, nat_le, List, map, filter, Bool, ◌&&◌}
+use Rattle.std.specs.Prelude.{ℕ, ◌+◌, List, map, filter}
 use Rattle.duct_definitions.specs.declared.design.NetFan.{NetFan}
 use Rattle.fan_points.specs.declared.row.FanRow.{FanRow}
 use Rattle.fan_points.specs.declared.terms.Energy.{Energy}
-use Rattle.fan_points.specs.Energy.{energy_of}
-
--- the airflow lies in the fan's range
-abbrev pub serves : ℕ → FanRow → Bool
-serves flow fan = nat_le fan.low flow && nat_le flow fan.high
+use Rattle.fan_points.specs.Energy.{energy_of, serves}
 
 -- the fan at its price and the cost of its energy, cents
 abbrev pub fan_at_cost : Energy → FanRow → NetFan

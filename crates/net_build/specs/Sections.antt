@@ -4,7 +4,7 @@
 --   section_facts p c s     what its losses come from, whatever its size
 --   section_sizes p c s     all of it in one record
 --   told c section k g      what rules are told of the section in its size k beside its neighbour's size g
-use Rattle.std.specs.Prelude.{ℕ, List, [], ◌∷◌, length, map, Option, Some, None, is_none, slice_get, slice_index, unwrap_or}
+use Rattle.std.specs.Prelude.{ℕ, List, [], ◌∷◌, map, Option, Some, None, is_none, slice_get, slice_index, unwrap_or}
 use Rattle.std.specs.Option.{option_map_or}
 use Rattle.duct_definitions.specs.Tree.{neighbour, at_neighbour}
 use Rattle.project_file.specs.declared.project.Project.{Project}

@@ -193,13 +193,23 @@ fn pair_beside<R: SizeRule>(
         ≡ added (refused_among catalogues.now (map R.allows rules.old.items) section.now (pair ∷ [])) refusals.old.items }
     ensures asked { Asked R.allows R.label R.count 1 rules.old.items rules.new.items }
 {
-    let pair = possible_pair(catalogues, section, size, g)?;
+    if !has_friction(catalogues, section, size) {
+        return None;
+    }
     let facts = told(catalogues, section, size, g);
     if ask(rules, refusals, &facts) {
-        Some(pair)
+        possible_pair(catalogues, section, size, g)
     } else {
         None
     }
+}
+
+// Whether the size has friction at the airflow of the section.
+fn has_friction(catalogues: &Catalogues<'_>, section: &SectionSizes, size: &ChosenSize) -> bool
+    requires { size.now ≡ chosen catalogues.now section.now size.now.place }
+    ensures { result ≡ has_friction catalogues.now section.now size.now.place }
+{
+    size.own_loss.is_some()
 }
 
 // What the section loses and costs in the size beside its neighbour's size g; None without friction.

@@ -6,8 +6,8 @@ ghost use Rattle.project_file.specs.Projects.{IsProject};
 ghost use Rattle.duct_definitions.specs.Network.{IsNetwork};
 ghost use Rattle.duct_definitions.specs.Tree.{sections as tree_sections};
 ghost use Rattle.net_build.specs.Catalogues.{Catalogues as CataloguesData, HasFriction};
-ghost use Rattle.net_build.specs.Asking.{IsOpen, with_pairs_and_fans};
-ghost use Rattle.net_build.specs.Built.{built, names_of_numbers};
+ghost use Rattle.net_build.specs.Asking.{IsOpen};
+ghost use Rattle.net_build.specs.Built.{built, names_of_numbers, with_pairs_and_fans};
 ghost use Rattle.net_build.specs.Sections.{section_sizes};
 
 use crate::asking::{all_pairs, none_refused};

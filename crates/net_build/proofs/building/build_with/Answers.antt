@@ -1,6 +1,5 @@
 use Rattle.std.proofs.Common.{map, ap, ◌∙◌, sym, subst}
 use Rattle.duct_units.specs.Rules.{first_broken}
-use Rattle.duct_definitions.specs.Airflow.{fan_flow}
 use Rattle.duct_definitions.specs.Tree.{sections}
 use Rattle.size_catalogue.specs.Catalogue.{IsCatalogue}
 use Rattle.net_build.specs.Fans.{offered}
