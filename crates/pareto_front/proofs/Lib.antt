@@ -21,6 +21,8 @@ pub mod ReadOn
 pub mod Same
 pub mod Shifts
 pub mod Steps
-pub mod Sums
+pub mod Summed
+pub mod SummedOn
+pub mod SummedStart
 pub mod Swept
 pub mod Together

@@ -10,13 +10,13 @@
 --   IsReached need progress    one of the fronts has its next point at this need
 --   IsEven progress            both are fronts, and both are read up to one need
 --   Steps old new step         the sweep goes to the next need of the two, with what both offer there
---   lesser_offer, sum_offer    the lesser of the costs that a step offers, and their sum
+--   lesser_offer               the lesser of the costs that a step offers
 use Rattle.std.specs.Prelude.{◌≡◌, ℕ, ◌+◌, ◌-◌, ◌<◌, ◌≤◌, ◌⊎◌, List, Option, Some}
 use Rattle.std.specs.Prelude.{length, slice_get, take, drop, All}
 use Rattle.std.specs.Option.{option_map}
 use Rattle.pareto_front.specs.declared.point.Point.{Point}
 use Rattle.pareto_front.specs.declared.sweep.Step.{Step}
-use Rattle.duct_units.specs.Prices.{lesser, both_of}
+use Rattle.duct_units.specs.Prices.{lesser}
 use Rattle.pareto_front.specs.Front.{IsFront, cheapest}
 
 -- the points of both fronts, and how many of each are read
@@ -37,10 +37,6 @@ last_cost points = cost_of (slice_get points (length points - 1))
 -- the lesser of the costs that both fronts offer
 abbrev pub lesser_offer : Step → Option ℕ
 lesser_offer step = lesser (cost_of step.left) (cost_of step.right)
-
--- the sum of the costs that both fronts offer
-abbrev pub sum_offer : Step → Option ℕ
-sum_offer step = both_of (cost_of step.left) (cost_of step.right)
 
 -- the need of the next point, where i are read
 abbrev pub next_need : List Point → ℕ → Option ℕ

@@ -19,6 +19,8 @@ pub(crate) fn take_cheaper(laid: &mut Vec<Point>, kept: &mut Vec<Point>) -> Resu
     ensures clear { IfOk result (λ _. laid.new.items ≡ []) }
     ensures up_to { (cap : ℕ) → NeedsWithin cap laid.old.items → NeedsWithin cap laid.new.items }
 {
+    // A greater size mostly loses less, so that sizes are laid in falling need.
+    laid.reverse();
     laid.sort_unstable_by_key(|point| (point.need, point.cost));
     keep_cheaper(laid.as_slice(), kept)?;
     laid.clear();

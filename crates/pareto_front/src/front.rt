@@ -6,9 +6,10 @@ ghost use Rattle.pareto_front.specs.Front.{IsFront, IsBelowFirst, NeedsWithin, C
 ghost use Rattle.duct_units.specs.Prices.{lesser, both_of};
 ghost use Rattle.pareto_front.specs.Front.{cheapest, shifted};
 
-use crate::merge::{both_points, either_points};
+use crate::merge::either_points;
 use crate::parts::{last_cost, moved, points_within};
 use crate::point::Point;
+use crate::sums::both_points;
 use duct_units::{List, NoMemory};
 use std::alloc::Global;
 use std::marker::Model;

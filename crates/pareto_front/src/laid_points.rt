@@ -15,7 +15,7 @@ use std::alloc::Global;
 use std::marker::Model;
 
 /// Fewer points than one in so many needs are sorted; for more, a price is kept for each need.
-const FEW: usize = 16;
+const FEW: usize = 64;
 
 /// What is laid: few points as they come, or the least price at each need.
 #[derive(Drop)]

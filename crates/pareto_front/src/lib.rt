@@ -13,6 +13,7 @@ mod least_prices;
 mod merge;
 mod parts;
 mod point;
+mod sums;
 mod sweep;
 
 pub use front::Front;

@@ -2,7 +2,7 @@
 ghost use Rattle.std.specs.Prelude.{◌≡◌, ℕ, ◌+◌, ◌<◌, ◌≤◌, ◌^◌, ◌++◌, All, IfOk, length, map, take};
 ghost use Rattle.pareto_front.specs.Cheaper.{with_cheaper};
 ghost use Rattle.pareto_front.specs.Front.{IsFront, NeedsWithin, cheapest, moved_by};
-ghost use Rattle.pareto_front.specs.Sweep.{last_cost};
+ghost use Rattle.pareto_front.specs.Sweep.{IsReadTo, last_cost};
 
 use crate::point::Point;
 use duct_units::NoMemory;
@@ -13,6 +13,7 @@ pub(crate) fn points_within(points: &[Point], need: u64) -> &[Point]
     requires { IsFront points.now }
     ensures part { result.now ≡ take (length result.now) points.now }
     ensures front { IsFront result.now }
+    ensures read { IsReadTo (need + 1) points.now (length result.now) }
     ensures within { All (λ point. point.need ≤ need) result.now }
     ensures prices { (budget : ℕ) → budget ≤ need →
         cheapest result.now budget ≡ cheapest points.now budget }

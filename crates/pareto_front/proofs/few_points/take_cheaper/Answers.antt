@@ -15,14 +15,17 @@ keep_cheaper-requires-clause-order c =
     (c.sort_unstable_by_key.ensures.sorted (λ p. (p.need, p.cost)) (answers_always _ _ _ (λ f a r g h. search rules))))
 
 pub returns-in_err-keep_cheaper-clause-up_to : goal.returns-in_err-keep_cheaper-clause-up_to
-returns-in_err-keep_cheaper-clause-up_to c cap low = All-permutation (λ p. p.need ≤ cap) c.args.laid.now.items c.sort_unstable_by_key.new.self.items c.sort_unstable_by_key.ensures.permutation low
+returns-in_err-keep_cheaper-clause-up_to c cap low = All-permutation (λ p. p.need ≤ cap) c.reverse.new.self.items c.sort_unstable_by_key.new.self.items c.sort_unstable_by_key.ensures.permutation
+    (All-permutation (λ p. p.need ≤ cap) c.args.laid.now.items c.reverse.new.self.items c.reverse.ensures.permutation low)
 
 pub returns-clause-value : goal.returns-clause-value
 returns-clause-value c budget =
     c.in_ok-keep_cheaper.ensures.value budget
     ∙ ap (λ (l : List Point). least_among l budget) c.as_slice.ensures.value
-    ∙ least_among-permuted c.args.laid.now.items c.sort_unstable_by_key.new.self.items budget c.sort_unstable_by_key.ensures.permutation
+    ∙ least_among-permuted c.reverse.new.self.items c.sort_unstable_by_key.new.self.items budget c.sort_unstable_by_key.ensures.permutation
+    ∙ least_among-permuted c.args.laid.now.items c.reverse.new.self.items budget c.reverse.ensures.permutation
 
 pub returns-clause-needs : goal.returns-clause-needs
 returns-clause-needs c cap low =
-    c.in_ok-keep_cheaper.ensures.needs cap (subst (NeedsWithin cap) (sym c.as_slice.ensures.value) (All-permutation (λ p. p.need ≤ cap) c.args.laid.now.items c.sort_unstable_by_key.new.self.items c.sort_unstable_by_key.ensures.permutation low))
+    c.in_ok-keep_cheaper.ensures.needs cap (subst (NeedsWithin cap) (sym c.as_slice.ensures.value) (All-permutation (λ p. p.need ≤ cap) c.reverse.new.self.items c.sort_unstable_by_key.new.self.items c.sort_unstable_by_key.ensures.permutation
+    (All-permutation (λ p. p.need ≤ cap) c.args.laid.now.items c.reverse.new.self.items c.reverse.ensures.permutation low)))

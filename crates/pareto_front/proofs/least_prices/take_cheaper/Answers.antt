@@ -1,4 +1,4 @@
-use Rattle.std.proofs.Common.{◌≡◌, ℕ, ◌+◌, arith, ap, ◌∙◌, refl, get_or}
+use Rattle.std.proofs.Common.{◌≡◌, ℕ, arith, ap, ◌∙◌, refl, get_or}
 use Rattle.pareto_front.specs.declared.point.Point.{Point}
 use Rattle.pareto_front.proofs.PricesScanned.{IsScannedTo-start, IsScannedTo-skip, IsScannedTo-push, IsScannedTo-value, IsScannedTo-needs}
 use Rattle.pareto_front.proofs.PricesTaken.{IsTakenTo-start, IsTakenTo-next, IsTakenTo-next_is, IsTakenTo-between, IsTakenTo-all}

@@ -1,4 +1,5 @@
-use Rattle.std.proofs.Common.{◌+◌, leb, arith, rules, take, drop}
+use Rattle.std.proofs.Common.{◌+◌, leb, arith, rules, sym, subst, take, drop}
+use Rattle.std.proofs.lemmas.List.{length-take-le}
 use Rattle.std.proofs.lemmas.List.Sorted.{IsPartitionedBy-leb, IsPartitionPoint-from_clause}
 use Rattle.pareto_front.specs.declared.point.Point.{Point}
 use Rattle.pareto_front.specs.Sweep.{IsReadTo}
@@ -16,6 +17,12 @@ read c =
     let parted = IsPartitionedBy-leb (λ (p : Point). p.need) ps need (needs_rise ps c.requires) in
     read_from_point ps need found.result found.ensures.bound
     (IsPartitionPoint-from_clause (λ p. leb p.need need) ps found.result found.ensures.partitioned parted (λ a r q k. search rules))
+
+pub returns-clause-read : goal.returns-clause-read
+returns-clause-read c =
+    let ps = c.args.points.now in
+    let found = c.partition_point-count in
+    subst (IsReadTo (c.args.need + 1) ps) (sym (length-take-le found.result ps found.ensures.bound)) (read c)
 
 pub returns-clause-front : goal.returns-clause-front
 returns-clause-front c = IsFront-take c.args.points.now c.partition_point-count.result c.requires
