@@ -4,8 +4,8 @@ ghost use Rattle.std.specs.Io.KnownBytes.{Consumes};
 ghost use Rattle.duct_ports.specs.Faults.{Rose, faults_after};
 ghost use Rattle.duct_ports.specs.Reading.{IsBegun};
 
-use crate::asked::Asked;
 use crate::files::{FileFault, Files, MAX_NAMES};
+use crate::names::Names;
 use std::fs;
 use std::io::{self, Read};
 
@@ -13,7 +13,7 @@ use std::io::{self, Read};
 #[derive(Drop)]
 pub struct DiskFiles<'r, 'w, R: std::rt::Files> {
     rt: &'r R,
-    asked: Asked<'w>,
+    asked: Names<'w>,
     file: Option<R::File>,
     faults: u64,
 }
@@ -27,7 +27,7 @@ impl<'r, 'w, R: std::rt::Files> DiskFiles<'r, 'w, R> {
     {
         DiskFiles {
             rt,
-            asked: Asked::new(),
+            asked: Names::new(),
             file: None,
             faults: 0,
         }

@@ -5,7 +5,6 @@
 //! its count rose in that call or stands at `u64::MAX`.
 #![tactic(auto)]
 
-mod asked;
 mod calls;
 mod disk;
 mod files;
@@ -14,6 +13,7 @@ mod held;
 pub mod laws;
 mod memory_files;
 mod memory_sink;
+mod names;
 mod read;
 mod sink;
 mod standard_output;
@@ -26,6 +26,7 @@ pub use gate::{Gate, OpenGate};
 pub use held::HeldFile;
 pub use memory_files::MemoryFiles;
 pub use memory_sink::MemorySink;
+pub use names::Names;
 pub use read::{MAX_FILE_BYTES, TakeError, read_all};
 pub use sink::{Sink, SinkFault};
 pub use standard_output::StdSink;

@@ -4,10 +4,10 @@ ghost use Rattle.std.specs.Io.KnownBytes.{Consumes};
 ghost use Rattle.duct_ports.specs.Faults.{Rose};
 ghost use Rattle.duct_ports.specs.Reading.{IsBegun};
 
-use crate::asked::Asked;
 use crate::calls::Calls;
 use crate::files::{FileFault, Files, MAX_NAMES};
 use crate::held::{HeldFile, HeldFiles};
+use crate::names::Names;
 use duct_units::List;
 use std::marker::Model;
 
@@ -16,7 +16,7 @@ use std::marker::Model;
 #[derive(Drop)]
 pub struct MemoryFiles<'w> {
     held: HeldFiles,
-    asked: Asked<'w>,
+    asked: Names<'w>,
     calls: Calls,
     faults: u64,
 }
@@ -45,7 +45,7 @@ impl<'w> MemoryFiles<'w> {
     {
         MemoryFiles {
             held: HeldFiles::new(files),
-            asked: Asked::new(),
+            asked: Names::new(),
             calls: Calls::new(fails),
             faults: 0,
         }

@@ -1,9 +1,9 @@
 //! Files and a sink that never fail, and whose count of faults is the constant 0.
 ghost use Rattle.std.specs.Prelude.{◌≡◌, ◌<◌, [], refl, Some, None, false, length, is_some};
 
-use crate::asked::Asked;
 use crate::files::{FileFault, Files};
 use crate::held::{HeldFile, HeldFiles};
+use crate::names::Names;
 use crate::sink::{Sink, SinkFault};
 use duct_units::List;
 
@@ -11,7 +11,7 @@ use duct_units::List;
 #[derive(Drop)]
 pub struct SureFiles<'w> {
     held: HeldFiles,
-    asked: Asked<'w>,
+    asked: Names<'w>,
 }
 
 impl<'w> SureFiles<'w> {
@@ -25,7 +25,7 @@ impl<'w> SureFiles<'w> {
     {
         SureFiles {
             held: HeldFiles::new(files),
-            asked: Asked::new(),
+            asked: Names::new(),
         }
     }
 }
