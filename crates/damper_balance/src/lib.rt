@@ -9,3 +9,4 @@ pub mod laws;
 mod passes;
 
 pub use dampers::{Dampers, balance};
+pub use passes::{greatest, least_number, less_neighbours, number_beside};

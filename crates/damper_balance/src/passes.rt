@@ -28,7 +28,7 @@ pub fn path_losses(net: &Network, d: &Design, losses: &mut [u64])
 }
 
 /// The number of the neighbour; 0 at the fan.
-fn number_beside(tree: &AirTree, numbers: &[u64], s: u32) -> u64
+pub fn number_beside(tree: &AirTree, numbers: &[u64], s: u32) -> u64
     requires count { length numbers.now ≡ section_count tree.now }
     requires section { s < section_count tree.now }
     ensures { result ≡ at_neighbour (slice_index numbers.now) (neighbour tree.now s) }
@@ -102,7 +102,7 @@ pub fn head(net: &Network, d: &Design, return_worst: u64, side: Side) -> u64
 }
 
 /// The least number of these sections; None of no section.
-fn least_number(sections: &[u32], numbers: &[u64]) -> Option<u64>
+pub fn least_number(sections: &[u32], numbers: &[u64]) -> Option<u64>
     requires { All (λ s. s < length numbers.now) sections.now }
     ensures { result ≡ least_at numbers.now sections.now }
 {
