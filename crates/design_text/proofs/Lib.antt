@@ -1,0 +1,12 @@
+pub mod WordLaws
+pub mod LineLaws
+pub mod SectionLoop
+pub mod BadLines
+pub mod Readers
+pub mod SectionTexts
+pub mod SectionRuns
+pub mod TextReading
+pub mod WholeTexts
+pub mod TextForms
+pub mod ReadLaws
+pub mod PrintedLaws
