@@ -2,5 +2,4 @@ pub mod Adding
 pub mod Children
 pub mod Closing
 pub mod Fronts
-pub mod InTurn
 pub mod Sides

@@ -1,4 +1,3 @@
 pub mod SectionFronts
 pub mod Join
-pub mod Condensing
 pub mod Outcomes

@@ -5,14 +5,14 @@
 #![tactic(auto)]
 
 mod close;
-mod condense;
 mod join;
+mod only_child;
 mod outcome;
 mod section_fronts;
 mod side;
 
-pub use condense::condense_in_turn;
 pub use join::Join;
+pub use only_child::beyond_one;
 pub use outcome::Outcome;
 pub use section_fronts::SectionFronts;
 pub use side::side_of;

@@ -4,7 +4,7 @@ use Rattle.duct_definitions.specs.Network.{Network}
 use Rattle.contract_join.specs.SectionFronts.{AreExact}
 use Rattle.contract_join.specs.Join.{AreSums}
 use Rattle.contract_join.proofs.Children.{AreSums-only}
-use Rattle.contract_join.proofs.condense.beyond_one.Goals as goal
+use Rattle.contract_join.proofs.only_child.beyond_one.Goals as goal
 
 pub fronts_beside-requires : goal.fronts_beside-requires
 fronts_beside-requires c =
