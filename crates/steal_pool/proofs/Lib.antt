@@ -1,0 +1,10 @@
+pub mod Sums
+pub mod Places
+pub mod Keeping
+pub mod Looking
+pub mod Shares
+pub mod Connecting
+pub mod Parted
+pub mod Draining
+pub mod Together
+pub mod Runs
