@@ -1,22 +1,29 @@
 //! The fronts of a network, line by line.
 
-use contract_join::{SectionFronts, condense_in_turn, side_of};
+use contract_join::SectionFronts;
+use duct_ports::OpenGate;
 use duct_units::{List, NoMemory, Side};
 use net_model::Network;
 use pareto_front::Point;
 use std::alloc::Global;
+use std::thread::Threads;
 use text_lines::Text;
+use tree_contract::contract_all;
 
 /// A line for each section beside each size of its neighbour, and one for each side.
-pub fn listing_of(alloc: Global, net: &Network) -> Result<List<u8>, NoMemory> {
+pub fn listing_of<R: Threads + Sync>(
+    rt: &R,
+    alloc: Global,
+    net: &Network,
+) -> Result<List<u8>, NoMemory> {
     let mut text = Text::new(alloc);
-    let fronts = condense_in_turn(alloc, net)?;
-    for section in fronts.as_slice() {
+    let fronted = contract_all(rt, alloc, net, 1, &OpenGate)?;
+    for section in fronted.all() {
         add_section(alloc, &mut text, section)?;
     }
-    let supply = side_of(alloc, net, fronts.as_slice(), Side::Supply)?;
+    let supply = fronted.side(Side::Supply);
     add_line(alloc, &mut text, b"supply", &[], supply.points())?;
-    let back = side_of(alloc, net, fronts.as_slice(), Side::Return)?;
+    let back = fronted.side(Side::Return);
     add_line(alloc, &mut text, b"return", &[], back.points())?;
     Ok(text.into_list())
 }

@@ -13,13 +13,14 @@ use listing::listing_of;
 use network_file::read_network;
 use std::env;
 use std::process::ExitCode;
+use std::thread::Threads;
 
 fn main(rt: HostRuntime) -> ExitCode {
     ExitCode::from(status(&rt))
 }
 
 /// 0 where the fronts of the file that the first word names were printed, else 1.
-fn status<R: std::rt::Files + Print + std::rt::Env + AllocGlobal>(rt: &R) -> u8 {
+fn status<R: std::rt::Files + Print + std::rt::Env + AllocGlobal + Threads + Sync>(rt: &R) -> u8 {
     let Ok(args) = env::args(rt) else {
         return 1;
     };
@@ -30,7 +31,7 @@ fn status<R: std::rt::Files + Print + std::rt::Env + AllocGlobal>(rt: &R) -> u8 
 }
 
 /// 0 where the fronts of the named file were printed, else 1.
-fn printed<R: std::rt::Files + Print + AllocGlobal>(rt: &R, name: &str) -> u8 {
+fn printed<R: std::rt::Files + Print + AllocGlobal + Threads + Sync>(rt: &R, name: &str) -> u8 {
     let mut files = DiskFiles::new(rt);
     let Ok(bytes) = read_all(rt.alloc(), &mut files, name) else {
         return 1;
@@ -38,7 +39,7 @@ fn printed<R: std::rt::Files + Print + AllocGlobal>(rt: &R, name: &str) -> u8 {
     let Ok(net) = read_network(rt.alloc(), bytes.as_slice()) else {
         return 1;
     };
-    let Ok(text) = listing_of(rt.alloc(), &net) else {
+    let Ok(text) = listing_of(rt, rt.alloc(), &net) else {
         return 1;
     };
     match write_all(&mut StdSink::new(rt), text.as_slice()) {

@@ -7,52 +7,57 @@
 //! (docs/METHOD.md).
 #![tactic(auto)]
 
-ghost use Rattle.std.specs.Prelude.{IfOk, IfSome, IfNone};
+ghost use Rattle.std.specs.Prelude.{◌≡◌, ◌<◌, ◌≤◌, IfOk, IfSome, IfNone};
 ghost use Rattle.duct_definitions.specs.Order.{IsBest, NoneMeets};
-ghost use Rattle.contract_join.specs.SectionFronts.{AreFrontsOf};
 ghost use Rattle.expand_sizes.specs.BestChoice.{IsBestChoice};
 
-use contract_join::{SectionFronts, condense_in_turn, side_of};
 use duct_definitions::Design;
+use duct_ports::Gate;
 use duct_units::{NoMemory, Side};
 use expand_sizes::expand;
 use expand_sizes::laws::{choice_of_side_fronts_is_best, nothing_priced_is_no_design};
 use fan_choice::{Choice, choose};
 use net_model::Network;
 use std::alloc::Global;
+use std::thread::Threads;
+use tree_contract::{Fronted, contract_all};
 
-/// The best design of the network; None where no design meets the rules.
-pub fn best_design(alloc: Global, net: &Network) -> Result<Option<Design>, NoMemory>
+/// The best design of the network; None where no design meets the rules. 1 to 32 workers condense at once, each of whom
+/// enters the gate before it condenses a section; the answer is the same whichever of them condenses what.
+pub fn best_design<R: Threads + Sync, G: Gate>(
+    rt: &R,
+    alloc: Global,
+    net: &Network,
+    workers: u32,
+    gate: &G,
+) -> Result<Option<Design>, NoMemory>
+    requires { (0 < workers) × (workers ≤ 32) }
     ensures some { IfOk result (λ best. IfSome best (IsBest net.now)) }
     ensures none { IfOk result (λ best. IfNone best (NoneMeets net.now)) }
 {
-    let fronts = condense_in_turn(alloc, net)?;
-    match best_choice(alloc, net, fronts.as_slice())? {
-        Some(choice) => Ok(Some(expand(alloc, net, fronts.as_slice(), &choice)?)),
+    let fronted = contract_all(rt, alloc, net, workers, gate)?;
+    match best_choice(net, &fronted) {
+        Some(choice) => Ok(Some(expand(alloc, net, fronted.all(), &choice)?)),
         None => Ok(None),
     }
 }
 
 /// The fans with what each side has of their pressures, chosen over the fronts of the two sides.
-fn best_choice(
-    alloc: Global,
-    net: &Network,
-    fronts: &[SectionFronts],
-) -> Result<Option<Choice>, NoMemory>
-    requires { AreFrontsOf net.now fronts.now }
-    ensures some { IfOk result (λ best. IfSome best (IsBestChoice net.now)) }
-    ensures none { IfOk result (λ best. IfNone best (NoneMeets net.now)) }
+fn best_choice(net: &Network, fronted: &Fronted) -> Option<Choice>
+    requires { fronted.now.net ≡ net.now }
+    ensures some { IfSome result (IsBestChoice net.now) }
+    ensures none { IfNone result (NoneMeets net.now) }
 {
-    let supply = side_of(alloc, net, fronts, Side::Supply)?;
-    let back = side_of(alloc, net, fronts, Side::Return)?;
-    match choose(net, &supply, &back) {
+    let supply = fronted.side(Side::Supply);
+    let back = fronted.side(Side::Return);
+    match choose(net, supply, back) {
         Some(choice) => {
-            choice_of_side_fronts_is_best(net, &supply, &back, &choice);
-            Ok(Some(choice))
+            choice_of_side_fronts_is_best(net, supply, back, &choice);
+            Some(choice)
         }
         None => {
-            nothing_priced_is_no_design(net, &supply, &back);
-            Ok(None)
+            nothing_priced_is_no_design(net, supply, back);
+            None
         }
     }
 }
