@@ -1,0 +1,13 @@
+pub mod Places
+pub mod AtMost
+pub mod Steps
+pub mod Rising
+pub mod TreeParts
+pub mod BelowLeast
+pub mod AllDesigns
+pub mod Totals
+pub mod ExactFronts
+pub mod WordReading
+pub mod PointReading
+pub mod LineReading
+pub mod ReadingSteps

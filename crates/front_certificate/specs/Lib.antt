@@ -1,0 +1,5 @@
+pub mod Certificates
+pub mod CertificateText
+pub mod Reading
+pub mod Sound
+pub mod Tests
