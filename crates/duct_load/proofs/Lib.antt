@@ -1,0 +1,5 @@
+pub mod RangeLaws
+mod NameLaws
+mod TreeLaws
+mod NetworkLaws
+mod PlaceLaws
