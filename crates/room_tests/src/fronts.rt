@@ -125,7 +125,7 @@ fn is_cheap(front: &Front) -> bool
 }
 
 /// The front of these points, put together one by one.
-fn front_of(alloc: Global, text: &str) -> Result<Front, Fail> {
+pub fn front_of(alloc: Global, text: &str) -> Result<Front, Fail> {
     let mut all = shared(Front::empty(alloc));
     for word in text.split_whitespace() {
         if let Some((need, cost)) = word.split_once(':') {

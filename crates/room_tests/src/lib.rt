@@ -1,8 +1,11 @@
-//! Tests alone, of the crates that no command reaches: cases worked by hand, each a line of a table.
+//! Tests that cross crates: calls on what several crates make together, mostly on cases worked by hand, each a line of a
+//! table.
 //!
-//! Each module has one table. `texts` says how a table spells a file.
+//! A module has at most one table. `texts` says how a table spells a file.
 #![tactic(auto)]
 
+#[cfg(test)]
+mod certificates;
 #[cfg(test)]
 mod condensing;
 #[cfg(test)]
