@@ -1,20 +1,27 @@
 -- The answer to words and files is one.
-use Rattle.std.proofs.Common.{◌≡◌, ℕ, inl, inr, List, Option, Some, None, Result, Ok, Err, sym, ◌∙◌, ap}
+use Rattle.std.proofs.Common.{◌≡◌, ℕ, inl, inr, List, [], Option, Some, None, Result, Ok, Err, sym, ◌∙◌, ap}
 use Rattle.std.specs.Prelude.{MatchOption, MatchResult}
 use Rattle.duct_definitions.specs.declared.design.Design.{Design}
+use Rattle.duct_definitions.specs.declared.listed.RuleCount.{RuleCount}
 use Rattle.duct_definitions.specs.Network.{Network}
 use Rattle.duct_definitions.specs.DesignText.{text, listed}
 use Rattle.duct_definitions.proofs.OrderLaws.{best_is_one}
 use Rattle.file_definitions.specs.Document.{document_of}
 use Rattle.project_file.specs.Raised.{migrating_bytes}
 use Rattle.size_catalogue.specs.Reading.{sizes_of}
-use Rattle.friction_maker.specs.Making.{air_of, made_of}
+use Rattle.friction_maker.specs.Making.{air_of}
+use Rattle.friction_maker.specs.MadeRows.{made_of}
+use Rattle.duct_load.specs.Made.{made}
+use Rattle.duct_load.specs.Summary.{summary}
 use Rattle.duct_cli.specs.declared.status.TheConstants.{REFUSED_WORDS}
+use Rattle.duct_cli.specs.Checking.{checking}
+use Rattle.duct_cli.specs.Designing.{Rules, designing, held_by}
 use Rattle.duct_cli.specs.RefusalText.{words_line}
 use Rattle.duct_cli.specs.Taking.{first_too_long}
-use Rattle.duct_cli.specs.Words.{Command, FrictionWords, pick, migrate, friction, command_of, files_of}
+use Rattle.duct_cli.specs.Commands.{Command, DesignFiles, FrictionWords, pick, migrate, friction, design, check, make, files_of}
+use Rattle.duct_cli.specs.Words.{command_of}
 use Rattle.network_file.specs.NetworkFile.{network_of}
-use Rattle.duct_cli.specs.Answer.{Says, AnswersDesign, AnswersNetwork, AnswersMigration, AnswersFriction, AnswersFiles, AnswersCommand, AreOneText, IsAnswer}
+use Rattle.duct_cli.specs.Answer.{Says, AnswersDesign, AnswersProject, AnswersNetwork, AnswersMigration, AnswersFriction, AnswersCheck, AnswersMade, AnswersFiles, AnswersCommand, AreOneText, IsAnswer}
 
 -- two statuses are one, and so are their texts
 abbrev AreOne : ℕ → ℕ → List ℕ → List ℕ → Type 0
@@ -23,13 +30,13 @@ AreOne s t one other = (s ≡ t) × (one ≡ other)
 says_once : (status : ℕ) (said : List ℕ) (s t : ℕ) (one other : List ℕ) → Says status said s one → Says status said t other → AreOne s t one other
 says_once status said s t one other says again = (says.0 ∙ sym again.0, says.1 ∙ sym again.1)
 
-design_once : (net : Network) (s t : ℕ) (one other : List ℕ) → AnswersDesign net s one → AnswersDesign net t other → AreOne s t one other
-design_once net s t one other (inl best) (inl again) =
+design_once : (net : Network) (refusals : List RuleCount) (s t : ℕ) (one other : List ℕ) → AnswersDesign net refusals s one → AnswersDesign net refusals t other → AreOne s t one other
+design_once net refusals s t one other (inl best) (inl again) =
     let same : ◌≡◌ {A = List ℕ} (text (listed net best.0)) (text (listed net again.0)) = ap (λ (d : Design). text (listed net d)) (best_is_one net best.0 again.0 best.1 again.1) in
     (best.3.0 ∙ sym again.3.0, best.3.1 ∙ same ∙ sym again.3.1)
-design_once net s t one other (inl best) (inr none) = absurd (none.0 best.0 best.1.meets)
-design_once net s t one other (inr none) (inl best) = absurd (none.0 best.0 best.1.meets)
-design_once net s t one other (inr none) (inr again) = says_once _ _ s t one other none.1 again.1
+design_once net refusals s t one other (inl best) (inr none) = absurd (none.0 best.0 best.1.meets)
+design_once net refusals s t one other (inr none) (inl best) = absurd (none.0 best.0 best.1.meets)
+design_once net refusals s t one other (inr none) (inr again) = says_once _ _ s t one other none.1 again.1
 
 -- what is answered by cases is one where it is one in each case
 result_once : {A B : Type 0} (r : Result A B) (P P' : A → Type 0) (Q Q' : B → Type 0) (One : Type 0)
@@ -44,7 +51,7 @@ option_once (Some a) P P' Q Q' One none some q q' = some a q q'
 
 network_once : (bytes : List ℕ) (s t : ℕ) (one other : List ℕ) → AnswersNetwork bytes s one → AnswersNetwork bytes t other → AreOne s t one other
 network_once bytes s t one other =
-    result_once (network_of bytes) _ _ _ _ (AreOne s t one other) (λ net. design_once net s t one other) (λ fault. says_once _ _ s t one other)
+    result_once (network_of bytes) _ _ _ _ (AreOne s t one other) (λ net. design_once net [] s t one other) (λ fault. says_once _ _ s t one other)
 
 migration_once : (bytes : List ℕ) (s t : ℕ) (one other : List ℕ) → AnswersMigration bytes s one → AnswersMigration bytes t other
     → (s ≡ t) × (document_of one ≡ document_of other)
@@ -61,11 +68,34 @@ friction_once words sizes ducts s t one other =
     (λ rows. says_once _ _ s t one other) (λ fault. says_once _ _ s t one other))
     (λ fault. says_once _ _ s t one other)
 
-files_once : (contents : List ℕ → List ℕ) (command : Command) (s t : ℕ) (one other : List ℕ)
-    → AnswersFiles contents command s one → AnswersFiles contents command t other → (s ≡ t) × AreOneText (Some command) one other
-files_once contents (pick network) s t one other = network_once (contents network) s t one other
-files_once contents (migrate project) s t one other = migration_once (contents project) s t one other
-files_once contents (friction words) s t one other = friction_once words (contents words.sizes) (contents words.ducts) s t one other
+project_once : (rules : Rules) (bytes : DesignFiles) (s t : ℕ) (one other : List ℕ) → AnswersProject rules bytes s one → AnswersProject rules bytes t other
+    → AreOne s t one other
+project_once rules bytes s t one other =
+    result_once (designing rules bytes) _ _ _ _ (AreOne s t one other)
+    (λ found. design_once found.0 found.1 s t one other) (λ refusal. says_once _ _ s t one other)
+
+check_once : (rules : Rules) (bytes : DesignFiles) (text : List ℕ) (s t : ℕ) (one other : List ℕ) → AnswersCheck rules bytes text s one
+    → AnswersCheck rules bytes text t other → AreOne s t one other
+check_once rules bytes text s t one other =
+    result_once (checking rules bytes text) _ _ _ _ (AreOne s t one other)
+    (λ found. says_once _ _ s t one other) (λ refusal. says_once _ _ s t one other)
+
+made_once : (net : Network) (s t : ℕ) (one other : List ℕ) → AnswersMade net s one → AnswersMade net t other → AreOne s t one other
+made_once net s t one other (inl best) (inl again) =
+    let same : ◌≡◌ {A = List ℕ} (summary net (Some best.0)) (summary net (Some again.0)) = ap (λ (d : Design). summary net (Some d)) (best_is_one net best.0 again.0 best.1 again.1) in
+    (best.2.0 ∙ sym again.2.0, best.2.1 ∙ same ∙ sym again.2.1)
+made_once net s t one other (inl best) (inr none) = absurd (none.0 best.0 best.1.meets)
+made_once net s t one other (inr none) (inl best) = absurd (none.0 best.0 best.1.meets)
+made_once net s t one other (inr none) (inr again) = says_once _ _ s t one other none.1 again.1
+
+files_once : (rules : Rules) (contents : List ℕ → List ℕ) (command : Command) (s t : ℕ) (one other : List ℕ)
+    → AnswersFiles rules contents command s one → AnswersFiles rules contents command t other → (s ≡ t) × AreOneText (Some command) one other
+files_once rules contents (pick network) s t one other = network_once (contents network) s t one other
+files_once rules contents (migrate project) s t one other = migration_once (contents project) s t one other
+files_once rules contents (friction words) s t one other = friction_once words (contents words.sizes) (contents words.ducts) s t one other
+files_once rules contents (design files) s t one other = project_once rules (held_by contents files) s t one other
+files_once rules contents (make n) s t one other = made_once (made n) s t one other
+files_once rules contents (check files text) s t one other = check_once rules (held_by contents files) (contents text) s t one other
 
 -- one text is one text of any command
 one_text : (command : Option Command) (one other : List ℕ) → one ≡ other → AreOneText command one other
@@ -73,25 +103,28 @@ one_text None one other same = same
 one_text (Some (pick network)) one other same = same
 one_text (Some (migrate project)) one other same = ap document_of same
 one_text (Some (friction words)) one other same = same
+one_text (Some (design files)) one other same = same
+one_text (Some (check files text)) one other same = same
+one_text (Some (make n)) one other same = same
 
 says_one : (command : Option Command) (status : ℕ) (said : List ℕ) (s t : ℕ) (one other : List ℕ) → Says status said s one → Says status said t other
     → (s ≡ t) × AreOneText command one other
 says_one command status said s t one other says again =
     let same = says_once status said s t one other says again in (same.0, one_text command one other same.1)
 
-command_once : (contents : List ℕ → List ℕ) (command : Command) (s t : ℕ) (one other : List ℕ)
-    → AnswersCommand contents command s one → AnswersCommand contents command t other → (s ≡ t) × AreOneText (Some command) one other
-command_once contents command s t one other =
+command_once : (rules : Rules) (contents : List ℕ → List ℕ) (command : Command) (s t : ℕ) (one other : List ℕ)
+    → AnswersCommand rules contents command s one → AnswersCommand rules contents command t other → (s ≡ t) × AreOneText (Some command) one other
+command_once rules contents command s t one other =
     option_once (first_too_long contents (files_of command)) _ _ _ _ ((s ≡ t) × AreOneText (Some command) one other)
-    (files_once contents command s t one other) (λ file. says_one (Some command) _ _ s t one other)
+    (files_once rules contents command s t one other) (λ file. says_one (Some command) _ _ s t one other)
 
-words_once : (asked : Option Command) (contents : List ℕ → List ℕ) (s t : ℕ) (one other : List ℕ)
-    → MatchOption asked (Says REFUSED_WORDS words_line s one) (λ command. AnswersCommand contents command s one)
-    → MatchOption asked (Says REFUSED_WORDS words_line t other) (λ command. AnswersCommand contents command t other)
+words_once : (rules : Rules) (asked : Option Command) (contents : List ℕ → List ℕ) (s t : ℕ) (one other : List ℕ)
+    → MatchOption asked (Says REFUSED_WORDS words_line s one) (λ command. AnswersCommand rules contents command s one)
+    → MatchOption asked (Says REFUSED_WORDS words_line t other) (λ command. AnswersCommand rules contents command t other)
     → (s ≡ t) × AreOneText asked one other
-words_once None contents s t one other = says_one None _ _ s t one other
-words_once (Some command) contents s t one other = command_once contents command s t one other
+words_once rules None contents s t one other = says_one None _ _ s t one other
+words_once rules (Some command) contents s t one other = command_once rules contents command s t one other
 
-pub answer_once : (words : List (List ℕ)) (contents : List ℕ → List ℕ) (s t : ℕ) (one other : List ℕ)
-    → IsAnswer words contents s one → IsAnswer words contents t other → (s ≡ t) × AreOneText (command_of words) one other
-answer_once words contents s t one other = words_once (command_of words) contents s t one other
+pub answer_once : (rules : Rules) (words : List (List ℕ)) (contents : List ℕ → List ℕ) (s t : ℕ) (one other : List ℕ)
+    → IsAnswer rules words contents s one → IsAnswer rules words contents t other → (s ≡ t) × AreOneText (command_of words) one other
+answer_once rules words contents s t one other = words_once rules (command_of words) contents s t one other

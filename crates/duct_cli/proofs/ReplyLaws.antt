@@ -6,10 +6,11 @@ use Rattle.duct_ports.specs.Reading.{Contents}
 use Rattle.duct_units.specs.declared.fault.Reason.TheVariants.{TooLong}
 use Rattle.duct_units.specs.Rules.{file_fault}
 use Rattle.duct_cli.specs.Answer.{AnswersCommand, AnswersFiles, Says}
+use Rattle.duct_cli.specs.Designing.{Rules}
 use Rattle.duct_cli.specs.RefusalText.{refusal_line}
-use Rattle.duct_cli.specs.Reply.{IsAnswered, IsCommandReply}
+use Rattle.duct_cli.specs.Reply.{IsCommandReply}
 use Rattle.duct_cli.specs.Taking.{AreWhole, AsksOn, first_too_long, names_seen}
-use Rattle.duct_cli.specs.Words.{Command, NamedFile, files_of, names_of}
+use Rattle.duct_cli.specs.Commands.{Command, NamedFile, files_of, names_of}
 use Rattle.duct_cli.specs.WordsSeen.{file_seen}
 use Rattle.duct_cli.specs.declared.answers.Answer.{Answer}
 use Rattle.duct_cli.specs.declared.reply.Reply.{Reply}
@@ -35,22 +36,22 @@ pub AsksOn-none : (names asked : List (List ℕ)) → asked ≡ [] → AsksOn []
 AsksOn-none names asked none = (names, ap (λ before. before ++ names) none)
 
 -- the answer for the bytes that the files hold is the answer of the command
-module _ (command : Command) (words : List FileWord) (bytes : List (List ℕ)) (are : map file_seen words ≡ files_of command) (a : Answer) where
+module _ (rules : Rules) (command : Command) (words : List FileWord) (bytes : List (List ℕ)) (are : map file_seen words ≡ files_of command) (a : Answer) where
   answers : (held : Option Contents) → IfSome held (λ contents. AreWhole contents words bytes)
-      → ((contents : Contents) → bytes ≡ map contents (names_of command) → AnswersFiles contents command a.status a.text)
-      → IfSome held (λ contents. AnswersCommand contents command a.status a.text)
+      → ((contents : Contents) → bytes ≡ map contents (names_of command) → AnswersFiles rules contents command a.status a.text)
+      → IfSome held (λ contents. AnswersCommand rules contents command a.status a.text)
   answers None whole says = tt
   answers (Some contents) whole says =
-      subst (λ (long : Option FileKind). MatchOption long (AnswersFiles contents command a.status a.text) (λ file. Says REFUSED (refusal_line file (file_fault TooLong)) a.status a.text))
+      subst (λ (long : Option FileKind). MatchOption long (AnswersFiles rules contents command a.status a.text) (λ file. Says REFUSED (refusal_line file (file_fault TooLong)) a.status a.text))
       (sym (ap (first_too_long contents) (sym are) ∙ whole.short))
       (says contents (whole.held ∙ ap (map contents) (names_are command words are)))
 
-module _ (command : Command) (held : Option Contents) (MayFault : Type 0) (words : List FileWord) (bytes : List (List ℕ)) (are : map file_seen words ≡ files_of command) where
+module _ (rules : Rules) (command : Command) (held : Option Contents) (MayFault : Type 0) (words : List FileWord) (bytes : List (List ℕ)) (are : map file_seen words ≡ files_of command) where
   pub whole_reply : (answer : Result Answer NoMemory) (r : Reply) → IfSome held (λ contents. AreWhole contents words bytes)
-      → IfOk answer (λ a. (contents : Contents) → bytes ≡ map contents (names_of command) → AnswersFiles contents command a.status a.text)
+      → IfOk answer (λ a. (contents : Contents) → bytes ≡ map contents (names_of command) → AnswersFiles rules contents command a.status a.text)
       → IfOk answer (λ a. (a.status < READ_FAULT) × (a.status ≢ REFUSED_WORDS))
-      → MatchResult answer (λ a. r ≡ reply.Answered a) (λ _. r ≡ reply.NoMemory) → IsCommandReply command held MayFault r
+      → MatchResult answer (λ a. r ≡ reply.Answered a) (λ _. r ≡ reply.NoMemory) → IsCommandReply rules command held MayFault r
   whole_reply (Ok a) r whole says below is =
-      subst (IsCommandReply command held MayFault) (sym is)
-      (record { status_below = below.0; status_other = below.1; answer = answers command words bytes are a held whole says })
-  whole_reply (Err error) r whole says below is = subst (IsCommandReply command held MayFault) (sym is) tt
+      subst (IsCommandReply rules command held MayFault) (sym is)
+      (record { status_below = below.0; status_other = below.1; answer = answers rules command words bytes are a held whole says })
+  whole_reply (Err error) r whole says below is = subst (IsCommandReply rules command held MayFault) (sym is) tt

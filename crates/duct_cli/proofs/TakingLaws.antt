@@ -2,13 +2,12 @@
 use Rattle.std.proofs.Common.{◌≡◌, ℕ, ◌+◌, ◌<◌, ◌≤◌, true, false, cond, refl, arith, ap, sym, ◌∙◌, subst, length, take, drop, get_or, List, [], ◌∷◌, ◌++◌, Option, Some, None, IfSome, map, append_assoc}
 use Rattle.std.specs.Prelude.{nat_lt}
 use Rattle.std.proofs.lemmas.Bool.{le-ltb, lt-ltb}
-use Rattle.std.proofs.lemmas.Bool.Decides.{leb_tells}
 use Rattle.std.proofs.lemmas.List.{take_more, drop_more, take-append-drop, map-append}
 use Rattle.duct_ports.specs.Reading.{Contents, Holds, HoldsMoreThan}
 use Rattle.duct_ports.specs.declared.read.TheConstants.{MAX_FILE_BYTES}
 use Rattle.duct_cli.specs.declared.words.FileWord.{FileWord}
 use Rattle.duct_cli.specs.Taking.{AreWhole, AsksOn, first_too_long, names_seen}
-use Rattle.duct_cli.specs.Words.{NamedFile}
+use Rattle.duct_cli.specs.Commands.{NamedFile}
 use Rattle.duct_cli.specs.WordsSeen.{file_seen}
 
 name_seen : FileWord → List ℕ

@@ -1,7 +1,13 @@
+pub mod Commands
+pub mod Arguments
+pub mod ArgumentsSeen
 pub mod Words
 pub mod WordsSeen
 pub mod Taking
 pub mod RefusalText
+pub mod Designing
+pub mod DesignBytes
+pub mod Checking
 pub mod Answer
 pub mod Reply
 pub mod Run

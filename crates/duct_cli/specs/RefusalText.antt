@@ -16,6 +16,11 @@ file_word file.Network = codes "network"
 file_word file.Project = codes "project"
 file_word file.Sizes = codes "sizes"
 file_word file.Ducts = codes "ducts"
+file_word file.Friction = codes "friction"
+file_word file.Fittings = codes "fittings"
+file_word file.Fans = codes "fans"
+file_word file.ReturnFans = codes "return-fans"
+file_word file.Design = codes "design"
 
 -- the word of what a place counts
 abbrev pub part_word : Part → List ℕ

@@ -9,7 +9,7 @@ use Rattle.duct_cli.specs.declared.taking.Taken.{Taken}
 use Rattle.duct_cli.specs.declared.taking.Taken.TheVariants as taken
 use Rattle.duct_cli.specs.declared.words.FileKind.{FileKind}
 use Rattle.duct_cli.specs.declared.words.FileWord.{FileWord}
-use Rattle.duct_cli.specs.Words.{NamedFile}
+use Rattle.duct_cli.specs.Commands.{NamedFile}
 use Rattle.duct_cli.specs.WordsSeen.{file_seen}
 
 -- the names of the files

@@ -1,9 +1,13 @@
 -- What accepted words ask for, wherever the words lie in memory.
-use Rattle.duct_cli.specs.declared.words.Command.{Command as Asked}
-use Rattle.duct_cli.specs.declared.words.Command.TheVariants.{Pick, Migrate, Friction}
+use Rattle.std.specs.Prelude.{option_map}
+use Rattle.duct_cli.specs.declared.words.Command.{Command as CommandWords}
+use Rattle.duct_cli.specs.declared.words.Asked.{Asked as AskedWords}
+use Rattle.duct_cli.specs.declared.words.Command.TheVariants.{Pick, Migrate, Friction, Design, Check, Make}
+use Rattle.duct_cli.specs.declared.words.DesignWords.{DesignWords}
 use Rattle.duct_cli.specs.declared.words.FileWord.{FileWord}
 use Rattle.duct_cli.specs.declared.words.FrictionWords.{FrictionWords as Words}
-use Rattle.duct_cli.specs.Words.{Command, pick, migrate, friction, FrictionWords, NamedFile, named}
+use Rattle.duct_cli.specs.Commands.{Command, pick, migrate, friction, design, check, make, DesignFiles, FrictionWords, NamedFile, named}
+use Rattle.duct_cli.specs.Words.{Asked}
 
 -- the words of `friction`
 abbrev pub friction_seen : Words → FrictionWords
@@ -14,11 +18,29 @@ friction_seen words = record {
   viscosity = words.viscosity;
 }
 
+-- the files of a project
+abbrev pub design_seen : DesignWords → DesignFiles
+design_seen words = record {
+  project = words.project.now;
+  sizes = words.sizes.now;
+  friction = words.friction.now;
+  fittings = words.fittings.now;
+  fans = words.fans.now;
+  return_fans = option_map (λ name. name.now) words.return_fans;
+}
+
 -- the command
-abbrev pub command_seen : Asked → Command
+abbrev pub command_seen : CommandWords → Command
 command_seen (Pick network) = pick network.now
 command_seen (Migrate project) = migrate project.now
 command_seen (Friction words) = friction (friction_seen words)
+command_seen (Design words) = design (design_seen words)
+command_seen (Check words text) = check (design_seen words) text.now
+command_seen (Make n) = make n
+
+-- the command, and how many workers condense
+abbrev pub asked_seen : AskedWords → Asked
+asked_seen asked = record { command = command_seen asked.command; workers = asked.workers }
 
 -- a file that a word names
 abbrev pub file_seen : FileWord → NamedFile

@@ -1,21 +1,30 @@
 //! What each command answers for the bytes of its files.
-ghost use Rattle.std.specs.Prelude.{◌≡◌, ◌≢◌, ◌<◌, length, map, IfOk};
+ghost use Rattle.std.specs.Prelude.{◌≡◌, ◌≢◌, ℕ, ◌<◌, ◌≤◌, length, map, slice_index, IfOk};
 ghost use Rattle.duct_definitions.specs.Designs.{Meets};
 ghost use Rattle.duct_definitions.specs.Balance.{IsBalanced};
 ghost use Rattle.duct_definitions.specs.DesignText.{text, listed};
+ghost use Rattle.duct_load.specs.Made.{made};
 ghost use Rattle.duct_ports.specs.Reading.{Contents};
-ghost use Rattle.duct_cli.specs.Answer.{AnswersDesign, AnswersDucts, AnswersFiles, AnswersFriction, AnswersMigration, AnswersNetwork};
+ghost use Rattle.duct_cli.specs.Answer.{AnswersDesign, AnswersProject, IsRefusalLine, AnswersDucts, AnswersFiles, AnswersFriction, AnswersMade, AnswersMigration, AnswersNetwork};
+ghost use Rattle.duct_cli.specs.Designing.{rules_of};
+ghost use Rattle.duct_cli.specs.DesignBytes.{bytes_at};
 ghost use Rattle.duct_cli.specs.RefusalText.{refusal_line};
-ghost use Rattle.duct_cli.specs.Words.{files_of, names_of, HasAir, IsAirInBounds};
+ghost use Rattle.duct_cli.specs.Commands.{files_of, names_of, IsInBounds, IsAirInBounds, IsSectionCount};
 ghost use Rattle.duct_cli.specs.WordsSeen.{command_seen, friction_seen};
 
+use crate::checking::answer_check;
+use crate::crew::Crew;
+use crate::designing::{DesignBytes, Unread, network_of_files};
 use crate::refusal_text::refusal_text;
 use crate::status::{FOUND, NONE_FOUND, READ_FAULT, REFUSED, REFUSED_WORDS};
 use crate::words::{Command, FileKind, FrictionWords};
 use damper_balance::balance;
 use design_laws::dampers_balance_every_path;
+use design_rules::{MAX_RULES, SizeRule};
 use design_text::{print, print_none};
-use duct_definitions::Design;
+use duct_definitions::{Design, RuleCount};
+use duct_load::{make_network, print_summary};
+use duct_ports::Gate;
 use duct_units::{Fault, List, NoMemory, ReadError};
 use friction_maker::{make_friction, rows_text};
 use net_model::Network;
@@ -24,6 +33,7 @@ use network_file::read_network;
 use project_file::migrate;
 use size_catalogue::{Sizes, read_sizes};
 use std::alloc::Global;
+use std::thread::Threads;
 use t_method::best_design;
 
 /// A status and a text.
@@ -36,22 +46,32 @@ pub struct Answer {
 }
 
 /// The answer of a command for the bytes of its files, in the order in which they are taken.
-pub fn answer_command(
+pub fn answer_command<T: Threads + Sync, G: Gate, R: SizeRule>(
     alloc: Global,
+    crew: &Crew<'_, T, G>,
     command: &Command<'_>,
     bytes: &[List<u8>],
+    rules: Vec<R>,
 ) -> Result<Answer, NoMemory>
+    requires few { length rules.items ≤ MAX_RULES }
+    requires fresh { (i : ℕ) → slice_index (map R.count rules.items) i ≡ 0 }
     requires files { length bytes.now ≡ length (files_of (command_seen command.now)) }
-    requires air { HasAir (command_seen command.now) }
+    requires bounds { IsInBounds (command_seen command.now) }
     ensures answer { IfOk result (λ a. (contents : Contents) → bytes.now ≡ map contents (names_of (command_seen command.now))
-        → AnswersFiles contents (command_seen command.now) a.status a.text) }
+        → AnswersFiles (rules_of R.allows R.label rules.items) contents (command_seen command.now) a.status a.text) }
     ensures status { IfOk result (λ a. (a.status < READ_FAULT) × (a.status ≢ REFUSED_WORDS)) }
 {
     match command {
-        Command::Pick(_) => answer_network(alloc, bytes[0].as_slice()),
+        Command::Pick(_) => answer_network(alloc, crew, bytes[0].as_slice()),
         Command::Migrate(_) => answer_migration(alloc, bytes[0].as_slice()),
         Command::Friction(words) => {
             answer_friction(alloc, words, bytes[0].as_slice(), bytes[1].as_slice())
+        }
+        Command::Design(_) => answer_project(alloc, crew, bytes, rules),
+        Command::Make(n) => answer_made(alloc, crew, *n),
+        Command::Check(..) => {
+            let last = bytes.len() - 1;
+            answer_check(alloc, &bytes[..last], bytes[last].as_slice(), rules)
         }
     }
 }
@@ -120,31 +140,93 @@ fn answer_ducts(
     }
 }
 
+/// The answer for the bytes of the files of a design, by the rules that are handed in.
+fn answer_project<T: Threads + Sync, G: Gate, R: SizeRule>(
+    alloc: Global,
+    crew: &Crew<'_, T, G>,
+    bytes: &[List<u8>],
+    rules: Vec<R>,
+) -> Result<Answer, NoMemory>
+    requires few { length rules.items ≤ MAX_RULES }
+    requires fresh { (i : ℕ) → slice_index (map R.count rules.items) i ≡ 0 }
+    requires files { 5 ≤ length bytes.now }
+    ensures answer { IfOk result (λ a. AnswersProject (rules_of R.allows R.label rules.items) (bytes_at bytes.now) a.status a.text) }
+    ensures status { IfOk result (λ a. (a.status < READ_FAULT) × (a.status ≢ REFUSED_WORDS)) }
+{
+    match network_of_files(alloc, &DesignBytes::of_files(bytes), rules) {
+        Ok((net, refusals)) => answer_design(alloc, crew, &net, refusals.as_slice()),
+        Err(unread) => unread_answer(alloc, &unread),
+    }
+}
+
+/// The line of the file that is refused.
+pub fn unread_answer(alloc: Global, unread: &Unread) -> Result<Answer, NoMemory>
+    ensures line { IfOk result (λ a. IsRefusalLine unread.now a.status a.text) }
+    ensures status { IfOk result (λ a. (a.status < READ_FAULT) × (a.status ≢ REFUSED_WORDS)) }
+{
+    match unread {
+        Unread::Refused(refusal) => refused(alloc, refusal.file, &refusal.fault),
+        Unread::NoMemory => Err(NoMemory),
+    }
+}
+
 /// The answer for the bytes of a network file.
-fn answer_network(alloc: Global, bytes: &[u8]) -> Result<Answer, NoMemory>
+fn answer_network<T: Threads + Sync, G: Gate>(
+    alloc: Global,
+    crew: &Crew<'_, T, G>,
+    bytes: &[u8],
+) -> Result<Answer, NoMemory>
     ensures answer { IfOk result (λ a. AnswersNetwork bytes.now a.status a.text) }
     ensures status { IfOk result (λ a. (a.status < READ_FAULT) × (a.status ≢ REFUSED_WORDS)) }
 {
     match read_network(alloc, bytes) {
-        Ok(net) => answer_design(alloc, &net),
+        Ok(net) => answer_design(alloc, crew, &net, &[]),
         Err(ReadError::Refused(fault)) => refused(alloc, FileKind::Network, &fault),
         Err(ReadError::NoMemory) => Err(NoMemory),
     }
 }
 
 /// The best design, or none.
-fn answer_design(alloc: Global, net: &Network) -> Result<Answer, NoMemory>
-    ensures answer { IfOk result (λ a. AnswersDesign net.now a.status a.text) }
+fn answer_design<T: Threads + Sync, G: Gate>(
+    alloc: Global,
+    crew: &Crew<'_, T, G>,
+    net: &Network,
+    refusals: &[RuleCount],
+) -> Result<Answer, NoMemory>
+    ensures answer { IfOk result (λ a. AnswersDesign net.now refusals.now a.status a.text) }
     ensures status { IfOk result (λ a. (a.status < READ_FAULT) × (a.status ≢ REFUSED_WORDS)) }
 {
-    match best_design(alloc, net)? {
+    match best_design(crew.rt, alloc, net, crew.workers, crew.gate)? {
         Some(best) => Ok(Answer {
             status: FOUND,
             text: design_text(alloc, net, &best)?,
         }),
         None => Ok(Answer {
             status: NONE_FOUND,
-            text: print_none(alloc, &net.name(), &[])?,
+            text: print_none(alloc, &net.name(), refusals)?,
+        }),
+    }
+}
+
+/// The summary of the made network of `n` sections, with its best design or without one.
+fn answer_made<T: Threads + Sync, G: Gate>(
+    alloc: Global,
+    crew: &Crew<'_, T, G>,
+    n: u32,
+) -> Result<Answer, NoMemory>
+    requires { IsSectionCount n }
+    ensures answer { IfOk result (λ a. AnswersMade (made n) a.status a.text) }
+    ensures status { IfOk result (λ a. (a.status < READ_FAULT) × (a.status ≢ REFUSED_WORDS)) }
+{
+    let net = make_network(alloc, n)?;
+    match best_design(crew.rt, alloc, &net, crew.workers, crew.gate)? {
+        Some(best) => Ok(Answer {
+            status: FOUND,
+            text: print_summary(alloc, &net, Some(&best))?,
+        }),
+        None => Ok(Answer {
+            status: NONE_FOUND,
+            text: print_summary(alloc, &net, None)?,
         }),
     }
 }

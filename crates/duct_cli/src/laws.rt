@@ -2,13 +2,14 @@
 ghost use Rattle.std.specs.Prelude.{◌≡◌, ℕ, List};
 ghost use Rattle.duct_cli.specs.declared.status.TheConstants.{FOUND, REFUSED, REFUSED_WORDS, NONE_FOUND, READ_FAULT, WRITE_FAULT, OUT_OF_MEMORY, NO_WORDS};
 ghost use Rattle.duct_cli.specs.Answer.{AreOneText, IsAnswer};
+ghost use Rattle.duct_cli.specs.Designing.{Rules};
 ghost use Rattle.duct_cli.specs.Words.{command_of};
 
 /// The same words over the same files have one answer: one status, and one text, or texts of one document where a project
 /// is migrated.
 pub fn answer_is_one()
-    ensures { (words : List (List ℕ)) → (contents : List ℕ → List ℕ) → (s t : ℕ) → (text other : List ℕ)
-        → IsAnswer words contents s text → IsAnswer words contents t other → (s ≡ t) × AreOneText (command_of words) text other }
+    ensures { (rules : Rules) → (words : List (List ℕ)) → (contents : List ℕ → List ℕ) → (s t : ℕ) → (text other : List ℕ)
+        → IsAnswer rules words contents s text → IsAnswer rules words contents t other → (s ≡ t) × AreOneText (command_of words) text other }
 {}
 
 /// The statuses as numbers, as scripts see them.

@@ -1,37 +1,56 @@
 //! What the program does with its arguments.
-ghost use Rattle.std.specs.Prelude.{◌≡◌, ◌<◌, ◌≤◌, ◌⊎◌, [], map, string_bytes, None, IfOk, OnErr};
+ghost use Rattle.std.specs.Prelude.{◌≡◌, ℕ, ◌+◌, ◌<◌, ◌≤◌, ◌⊎◌, [], length, map, slice_index, string_bytes, None, IfOk, OnErr, OnOk};
 ghost use Rattle.duct_ports.specs.Faults.{Rose};
 ghost use Rattle.std.specs.Io.KnownBytes.{Keeps};
+ghost use Rattle.duct_cli.specs.Designing.{rules_of};
 ghost use Rattle.duct_cli.specs.Run.{Answers};
 ghost use Rattle.duct_cli.specs.Words.{command_of};
 
 use crate::run::run;
 use crate::status::{NO_WORDS, OUT_OF_MEMORY, READ_FAULT, REFUSED_WORDS, WRITE_FAULT};
-use duct_ports::{Files, Sink};
+use design_rules::{MAX_RULES, SizeRule};
+use duct_ports::{Files, Gate, Sink};
+use duct_units::NoMemory;
 use std::alloc::Global;
 use std::env;
 use std::io::{self, ErrorKind};
+use std::thread::Threads;
 
 /// The arguments of the command line, without the name of the program.
 pub fn arguments<R: std::rt::Env + AllocGlobal>(rt: &R) -> io::Result<Vec<String>> {
     Ok(env::args(rt)?.skip(1).collect(rt.alloc())?)
 }
 
+/// Adds a rule of sizes that has refused nothing to others that have refused nothing.
+pub fn add_rule<R: SizeRule>(rules: &mut Vec<R>, rule: R) -> Result<(), NoMemory>
+    requires new { R.count rule ≡ 0 }
+    requires fresh { (i : ℕ) → slice_index (map R.count rules.old.items) i ≡ 0 }
+    ensures length { OnOk result (length rules.new.items ≡ length rules.old.items + 1) }
+    ensures fresh { OnOk result ((i : ℕ) → slice_index (map R.count rules.new.items) i ≡ 0) }
+{
+    Ok(rules.push(rule)?)
+}
+
 /// Runs on the arguments and gives the status of the run; where the runtime gave none, nothing is written, and the
 /// status is 6 where memory ran out and 7 for another cause.
-pub fn status_of<'w, F: Files<'w>, W: Sink>(
+pub fn status_of<'w, T: Threads + Sync, F: Files<'w>, W: Sink, R: SizeRule, G: Gate>(
+    rt: &T,
     alloc: Global,
     arguments: &'w io::Result<Vec<String>>,
     files: &mut F,
     out: &mut W,
+    rules: Vec<R>,
+    gate: &G,
 ) -> u8
-    requires { F.asked files.old ≡ [] }
+    requires asked { F.asked files.old ≡ [] }
+    requires few { length rules.items ≤ MAX_RULES }
+    requires fresh { (i : ℕ) → slice_index (map R.count rules.items) i ≡ 0 }
 
     ensures status { result ≤ NO_WORDS }
 
     // What `run` says of its status.
     ensures answer { IfOk arguments.now (λ words. result < READ_FAULT
-        → Answers (map string_bytes words.items) (F.held files.old) result (W.taken out.old) (W.taken out.new)) }
+        → Answers (rules_of R.allows R.label rules.items) (map string_bytes words.items) (F.held files.old) result (W.taken out.old) (W.taken out.new)) }
     ensures words { IfOk arguments.now (λ words. command_of (map string_bytes words.items) ≡ None
         → (result ≡ REFUSED_WORDS) ⊎ (result ≡ WRITE_FAULT)) }
     ensures refused_words { IfOk arguments.now (λ words. result ≡ REFUSED_WORDS
@@ -46,7 +65,7 @@ pub fn status_of<'w, F: Files<'w>, W: Sink>(
     ensures unwritten { OnErr arguments.now (out.new ≡ out.old) }
 {
     match arguments {
-        Ok(words) => run(alloc, words.as_slice(), files, out),
+        Ok(words) => run(rt, alloc, words.as_slice(), files, out, rules, gate),
         Err(error) => status_without_words(error),
     }
 }

@@ -60,6 +60,11 @@ fn file_word(file: FileKind) -> &'static [u8]
         FileKind::Project => b"project",
         FileKind::Sizes => b"sizes",
         FileKind::Ducts => b"ducts",
+        FileKind::Friction => b"friction",
+        FileKind::Fittings => b"fittings",
+        FileKind::Fans => b"fans",
+        FileKind::ReturnFans => b"return-fans",
+        FileKind::Design => b"design",
     }
 }
 

@@ -2,10 +2,12 @@
 ghost use Rattle.std.specs.Prelude.{◌≡◌, [], IfOk};
 
 use crate::run::run;
-use duct_ports::{HeldFile, MemoryFiles, MemorySink};
+use design_rules::PresetRule;
+use duct_ports::{HeldFile, MemoryFiles, MemorySink, OpenGate};
 use duct_units::List;
 use std::alloc::Global;
 use std::test::Fail;
+use std::thread::Threads;
 
 /// What the file `one.toml` holds.
 const NETWORK: &str = r#"format = 1
@@ -52,6 +54,15 @@ words,pick,one.toml,two.toml -> 2 refused words|
 words,Pick,one.toml -> 2 refused words|
 words,--help -> 2 refused words|
 words,design,one.toml -> 2 refused words|
+words,design,p,s,f,t -> 2 refused words|
+words,design,p,s,f,t,n,r -> 2 refused words|
+words,design,p,s,f,t,n,--return-fans -> 2 refused words|
+words,design,p,s,f,t,n,--return-fans,-r -> 2 refused words|
+words,design,p,s,f,t,--return-fans,r -> 2 refused words|
+words,design,--return-fans,r,p,s,f,t,n,--return-fans,r -> 2 refused words|
+words,pick,one.toml,--return-fans,one.toml -> 2 refused words|
+words,design,one.toml,one.toml,one.toml,one.toml,one.toml -> 1 refused project file 0 key|
+words,design,one.toml,--return-fans,two.toml,one.toml,one.toml,one.toml,one.toml -> 4 fault read|
 words,migrate -> 2 refused words|
 words,migrate,one.toml,one.toml -> 2 refused words|
 words,friction,one.toml,one.toml,1200 -> 2 refused words|
@@ -73,7 +84,7 @@ fn each_run_has_its_status_and_its_text(rt: HostRuntime) -> Result<(), Fail> {
     for line in CASES.lines() {
         if let Some((case, wanted)) = line.split_once(" -> ") {
             let wanted = wanted.replace(rt.alloc(), "DESIGN", DESIGN)?;
-            let found = outcome(rt.alloc(), case)?;
+            let found = outcome(&rt, case)?;
             assert_eq!(rt; found.as_str().trim_end(), wanted.as_str(), "of {case}");
         }
     }
@@ -87,7 +98,7 @@ fn a_sink_that_takes_a_byte_at_a_time_has_a_prefix_of_the_text(
     let mut prefix = String::from_str(rt.alloc(), "5 ")?;
     for (room, next) in DESIGN.chars().enumerate() {
         let case = format!(in rt.alloc(); "room {room}")?;
-        let found = outcome(rt.alloc(), case.as_str())?;
+        let found = outcome(&rt, case.as_str())?;
         assert_eq!(rt; found.as_str(), prefix.as_str(), "at {case}");
         prefix.push(next)?;
     }
@@ -95,11 +106,21 @@ fn a_sink_that_takes_a_byte_at_a_time_has_a_prefix_of_the_text(
 }
 
 /// The status of a case's run, and what was written.
-fn outcome(alloc: Global, case: &str) -> Result<String, Fail> {
+fn outcome<T: Threads + Sync + AllocGlobal>(rt: &T, case: &str) -> Result<String, Fail> {
+    let alloc = rt.alloc();
     let words = words_of(alloc, case)?;
     let mut files = files_of(alloc, case)?;
     let mut out = sink_of(alloc, case)?;
-    let status = run(alloc, words.as_slice(), &mut files, &mut out);
+    let rules: Vec<PresetRule> = Vec::new(alloc);
+    let status = run(
+        rt,
+        alloc,
+        words.as_slice(),
+        &mut files,
+        &mut out,
+        rules,
+        &OpenGate,
+    );
     spelled(alloc, status, out.bytes())
 }
 

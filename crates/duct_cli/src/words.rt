@@ -1,8 +1,14 @@
 //! The arguments of the command line, which FORMATS calls words.
-ghost use Rattle.std.specs.Prelude.{◌≡◌, ◌≤◌, ◌<◌, ◌^◌, ◌∷◌, [], map, option_map, string_bytes, IfOk, IfSome};
-ghost use Rattle.duct_cli.specs.Words.{command_of, files_of, is_plain, one_file, plain, whole_number, friction_words, named, HasAir, IsAirInBounds};
-ghost use Rattle.duct_cli.specs.WordsSeen.{command_seen, friction_seen, file_seen};
+ghost use Rattle.std.specs.Prelude.{◌≡◌, ◌≤◌, ◌<◌, ◌^◌, ◌++◌, ◌∷◌, [], map, option_map, slice_get, string_bytes, IfOk, IfSome};
+ghost use Rattle.duct_cli.specs.ArgumentsSeen.{arguments_seen};
+ghost use Rattle.duct_cli.specs.Commands.{files_of, catalogue_files, project_files, named, IsInBounds, IsAirInBounds, IsSectionCount};
+ghost use Rattle.duct_cli.specs.Words.{asked_of, check_words, command_from, design_words, one_file, project_words, number_at, whole_number, friction_words, section_count_word, workers_in};
+ghost use Rattle.duct_cli.specs.WordsSeen.{asked_seen, command_seen, design_seen, friction_seen, file_seen};
 
+use crate::arguments::{Arguments, plain_file};
+use crate::crew::{DEFAULT_WORKERS, MAX_WORKERS};
+use duct_definitions::MAX_SECTIONS;
+use duct_ports::Names;
 use duct_units::{NoMemory, whole};
 use friction_maker::{MAX_DENSITY, MAX_VISCOSITY, MIN_DENSITY, MIN_VISCOSITY};
 use std::alloc::Global;
@@ -14,6 +20,12 @@ pub enum FileKind {
     Project,
     Sizes,
     Ducts,
+    Friction,
+    Fittings,
+    Fans,
+    ReturnFans,
+    /// The text of a design.
+    Design,
 }
 
 /// A file that a word names.
@@ -21,6 +33,18 @@ pub enum FileKind {
 pub struct FileWord<'w> {
     pub kind: FileKind,
     pub name: &'w str,
+}
+
+/// The files of a project, by name.
+#[derive(Clone, Copy)]
+pub struct DesignWords<'w> {
+    pub project: &'w str,
+    pub sizes: &'w str,
+    pub friction: &'w str,
+    pub fittings: &'w str,
+    pub fans: &'w str,
+    /// The fans that are offered to the return side, where they are named.
+    pub return_fans: Option<&'w str>,
 }
 
 /// The words of `friction`: a catalogue, its ducts, and the air that they carry.
@@ -34,7 +58,7 @@ pub struct FrictionWords<'w> {
     pub viscosity: u64,
 }
 
-/// What accepted words ask for, with the names of the files.
+/// A command, with the names of its files.
 #[derive(Clone, Copy)]
 pub enum Command<'w> {
     /// The least-cost design of a network file.
@@ -43,25 +67,40 @@ pub enum Command<'w> {
     Migrate(&'w str),
     /// A friction file for a catalogue.
     Friction(FrictionWords<'w>),
+    /// The least-cost design of a project.
+    Design(DesignWords<'w>),
+    /// What a design text says otherwise than the design of a project that it names.
+    Check(DesignWords<'w>, &'w str),
+    /// The summary of the made network of so many sections.
+    Make(u32),
+}
+
+/// What accepted words ask for.
+#[derive(Clone, Copy)]
+pub struct Asked<'w> {
+    pub command: Command<'w>,
+    /// How many workers condense.
+    pub workers: u32,
+}
+
+impl<'w> Asked<'w> {
+    /// What the words ask for; None where they are refused. Takes no memory.
+    pub fn of_words(words: &'w [String]) -> Option<Asked<'w>>
+        ensures value { option_map asked_seen result ≡ asked_of (map string_bytes words.now) }
+        ensures bounds { IfSome result (λ asked. IsInBounds (command_seen asked.command)) }
+        ensures workers { IfSome result (λ asked. (0 < asked.workers) × (asked.workers ≤ MAX_WORKERS)) }
+    {
+        let [name, rest @ ..] = words else {
+            return None;
+        };
+        let arguments = Arguments::of_words(rest)?;
+        let workers = workers_in(&arguments)?;
+        let command = command_from(name.as_str(), &arguments)?;
+        Some(Asked { command, workers })
+    }
 }
 
 impl<'w> Command<'w> {
-    /// The command of the words; None where they are refused. Takes no memory.
-    pub fn of_words(words: &'w [String]) -> Option<Command<'w>>
-        ensures value { option_map command_seen result ≡ command_of (map string_bytes words.now) }
-        ensures air { IfSome result (λ command. HasAir (command_seen command)) }
-    {
-        let [first, rest @ ..] = words else {
-            return None;
-        };
-        match first.as_str() {
-            "pick" => Some(Command::Pick(one_file(rest)?)),
-            "migrate" => Some(Command::Migrate(one_file(rest)?)),
-            "friction" => Some(Command::Friction(friction_words(rest)?)),
-            _ => None,
-        }
-    }
-
     /// The files that the command names, in the order in which they are taken.
     pub fn files(&self, alloc: Global) -> Result<Vec<FileWord<'w>>, NoMemory>
         ensures { IfOk result (λ files. map file_seen files.items ≡ files_of (command_seen self.now)) }
@@ -77,34 +116,82 @@ impl<'w> Command<'w> {
                 })?;
                 Ok(files)
             }
+            Command::Design(words) => project_files(alloc, words),
+            Command::Make(_) => Ok(Vec::new(alloc)),
+            Command::Check(words, text) => {
+                let mut files = project_files(alloc, words)?;
+                files.push(FileWord {
+                    kind: FileKind::Design,
+                    name: text,
+                })?;
+                Ok(files)
+            }
         }
     }
 }
 
-/// The word that names the one file of a command.
-fn one_file<'w>(words: &'w [String]) -> Option<&'w str>
-    ensures { option_map (λ word. word.now) result ≡ one_file (map string_bytes words.now) }
+/// The command of this name.
+fn command_from<'w>(name: &str, arguments: &Arguments<'w>) -> Option<Command<'w>>
+    ensures value { option_map command_seen result ≡ command_from name.now (arguments_seen arguments.now) }
+    ensures bounds { IfSome result (λ command. IsInBounds (command_seen command)) }
 {
-    match words {
-        [file] => plain(file.as_str()),
+    match name {
+        "pick" => Some(Command::Pick(one_file(arguments.files_and_workers()?)?)),
+        "migrate" => Some(Command::Migrate(one_file(arguments.files_alone()?)?)),
+        "friction" => Some(Command::Friction(friction_words(arguments.files_alone()?)?)),
+        "design" => Some(Command::Design(design_words(arguments)?)),
+        "check" => check_words(arguments.without_workers()?),
+        "make" => Some(Command::Make(section_count_word(arguments.files_and_workers()?)?)),
         _ => None,
     }
 }
 
+/// How many workers condense.
+fn workers_in(arguments: &Arguments<'_>) -> Option<u32>
+    ensures value { result ≡ workers_in (arguments_seen arguments.now) }
+    ensures within { IfSome result (λ workers. (0 < workers) × (workers ≤ MAX_WORKERS)) }
+{
+    match arguments.workers() {
+        Some(value) => Some(whole_number(value.as_bytes(), 1, u64::from(MAX_WORKERS))? as u32),
+        None => Some(DEFAULT_WORKERS),
+    }
+}
+
+/// The one file of a command.
+fn one_file<'w>(files: &Names<'w>) -> Option<&'w str>
+    ensures { option_map (λ word. word.now) result ≡ one_file files.now }
+{
+    if files.len() != 1 {
+        return None;
+    }
+    plain_file(files, 0)
+}
+
 /// The words of `friction` by their places.
-fn friction_words<'w>(words: &'w [String]) -> Option<FrictionWords<'w>>
-    ensures value { option_map friction_seen result ≡ friction_words (map string_bytes words.now) }
+fn friction_words<'w>(words: &Names<'w>) -> Option<FrictionWords<'w>>
+    ensures value { option_map friction_seen result ≡ friction_words words.now }
     ensures air { IfSome result (λ words. IsAirInBounds words.density words.viscosity) }
 {
-    let [sizes, ducts, density, viscosity] = words else {
+    if words.len() != 4 {
         return None;
-    };
+    }
     Some(FrictionWords {
-        sizes: plain(sizes.as_str())?,
-        ducts: plain(ducts.as_str())?,
-        density: whole_number(density.as_bytes(), MIN_DENSITY, MAX_DENSITY)?,
-        viscosity: whole_number(viscosity.as_bytes(), MIN_VISCOSITY, MAX_VISCOSITY)?,
+        sizes: plain_file(words, 0)?,
+        ducts: plain_file(words, 1)?,
+        density: number_at(words, 2, MIN_DENSITY, MAX_DENSITY)?,
+        viscosity: number_at(words, 3, MIN_VISCOSITY, MAX_VISCOSITY)?,
     })
+}
+
+/// The number at a place.
+fn number_at(words: &Names<'_>, i: usize, low: u64, high: u64) -> Option<u64>
+    requires order { low ≤ high }
+    requires fits { high < 2 ^ 63 }
+    ensures value { result ≡ number_at words.now i low high }
+    ensures within { IfSome result (λ n. (low ≤ n) × (n ≤ high)) }
+{
+    let word = words.get(i)?;
+    whole_number(word.as_bytes(), low, high)
 }
 
 /// The number that the word spells, where it lies from low to high.
@@ -117,6 +204,54 @@ fn whole_number(word: &[u8], low: u64, high: u64) -> Option<u64>
     Some(whole(word, low as i64, high as i64)?.unsigned_abs())
 }
 
+/// How many sections are made: the one word of `make`.
+fn section_count_word(words: &Names<'_>) -> Option<u32>
+    ensures value { result ≡ section_count_word words.now }
+    ensures within { IfSome result IsSectionCount }
+{
+    if words.len() != 1 {
+        return None;
+    }
+    Some(number_at(words, 0, 1, MAX_SECTIONS as u64)? as u32)
+}
+
+/// A project and its catalogues by their places, the return fans by their option.
+fn project_words<'w>(arguments: &Arguments<'w>) -> Option<DesignWords<'w>>
+    ensures { option_map design_seen result ≡ project_words (arguments_seen arguments.now) }
+{
+    let files = arguments.files();
+    Some(DesignWords {
+        project: plain_file(files, 0)?,
+        sizes: plain_file(files, 1)?,
+        friction: plain_file(files, 2)?,
+        fittings: plain_file(files, 3)?,
+        fans: plain_file(files, 4)?,
+        return_fans: arguments.return_fans()?,
+    })
+}
+
+/// The files of `design`.
+fn design_words<'w>(arguments: &Arguments<'w>) -> Option<DesignWords<'w>>
+    ensures { option_map design_seen result ≡ design_words (arguments_seen arguments.now) }
+{
+    if arguments.files().len() != 5 {
+        return None;
+    }
+    project_words(arguments)
+}
+
+/// The files of `check`, with the design text behind the others.
+fn check_words<'w>(arguments: &Arguments<'w>) -> Option<Command<'w>>
+    ensures value { option_map command_seen result ≡ check_words (arguments_seen arguments.now) }
+    ensures bounds { IfSome result (λ command. IsInBounds (command_seen command)) }
+{
+    if arguments.files().len() != 6 {
+        return None;
+    }
+    let words = project_words(arguments)?;
+    Some(Command::Check(words, plain_file(arguments.files(), 5)?))
+}
+
 /// The one file of a command.
 fn one<'w>(alloc: Global, kind: FileKind, name: &'w str) -> Result<Vec<FileWord<'w>>, NoMemory>
     ensures { IfOk result (λ files. map file_seen files.items ≡ named kind name.now ∷ []) }
@@ -124,23 +259,48 @@ fn one<'w>(alloc: Global, kind: FileKind, name: &'w str) -> Result<Vec<FileWord<
     Ok(vec![in alloc; FileWord { kind, name }]?)
 }
 
-/// The word, where it is not empty and no option.
-fn plain(word: &str) -> Option<&str>
-    ensures { option_map (λ w. w.now) result ≡ plain word.now }
+/// The files of a project, its catalogues and the return fans.
+fn project_files<'w>(alloc: Global, words: &DesignWords<'w>) -> Result<Vec<FileWord<'w>>, NoMemory>
+    ensures { IfOk result (λ files. map file_seen files.items ≡ project_files (design_seen words.now)) }
 {
-    if is_plain(word.as_bytes()) {
-        Some(word)
-    } else {
-        None
+    let mut files = catalogue_files(alloc, words)?;
+    if let Some(name) = words.return_fans {
+        files.push(FileWord {
+            kind: FileKind::ReturnFans,
+            name,
+        })?;
     }
+    Ok(files)
 }
 
-/// Whether the word is not empty and no option.
-fn is_plain(word: &[u8]) -> bool
-    ensures { result ≡ is_plain word.now }
+/// The same but for the return fans.
+fn catalogue_files<'w>(
+    alloc: Global,
+    words: &DesignWords<'w>,
+) -> Result<Vec<FileWord<'w>>, NoMemory>
+    ensures { IfOk result (λ files. map file_seen files.items ≡ catalogue_files (design_seen words.now)) }
 {
-    match word {
-        [] => false,
-        [first, ..] => *first != b'-',
-    }
+    let files = [
+        FileWord {
+            kind: FileKind::Project,
+            name: words.project,
+        },
+        FileWord {
+            kind: FileKind::Sizes,
+            name: words.sizes,
+        },
+        FileWord {
+            kind: FileKind::Friction,
+            name: words.friction,
+        },
+        FileWord {
+            kind: FileKind::Fittings,
+            name: words.fittings,
+        },
+        FileWord {
+            kind: FileKind::Fans,
+            name: words.fans,
+        },
+    ];
+    Ok(files.to_vec(alloc)?)
 }

@@ -1,7 +1,6 @@
-use Rattle.std.proofs.Common.{◌≡◌, ◌<◌, ◌∙◌, ◌+◌, ◌++◌, ◌∷◌, [], ap, arith, append-nil, cond, length, length-append, not, sym, subst, take, List, Option, Err}
+use Rattle.std.proofs.Common.{◌≡◌, ◌<◌, ◌∙◌, ◌+◌, ◌++◌, ◌∷◌, [], ap, arith, append-nil, cond, length, length-append, not, sym, subst, take, Option, Err}
 use Rattle.std.specs.Prelude.{IfSome}
-use Rattle.duct_ports.specs.Reading.{Contents, Holds, HoldsMoreThan}
-use Rattle.duct_ports.specs.declared.read.TheConstants.{MAX_FILE_BYTES}
+use Rattle.duct_ports.specs.Reading.{Contents}
 use Rattle.duct_cli.specs.Taking.{AreWhole}
 use Rattle.duct_cli.proofs.TakingLaws.{AsksOn-part, asked_next, is_too_long, are_whole}
 use Rattle.duct_cli.proofs.taking.take_all.Goals as goal

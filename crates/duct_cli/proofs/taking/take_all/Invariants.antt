@@ -1,6 +1,5 @@
-use Rattle.std.proofs.Common.{◌≡◌, ◌≤◌, ◌++◌, length, map, take, None}
+use Rattle.std.proofs.Common.{◌≡◌, ◌≤◌, ◌++◌, length, take}
 use Rattle.std.specs.Prelude.{IfSome}
-use Rattle.duct_cli.specs.WordsSeen.{file_seen}
 use Rattle.duct_cli.specs.Taking.{AreWhole, names_seen}
 use Rattle.duct_cli.proofs.taking.take_all.Given as goal
 

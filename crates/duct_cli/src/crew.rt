@@ -1,0 +1,21 @@
+//! Who condenses a tree.
+ghost use Rattle.std.specs.Prelude.{◌<◌, ◌≤◌};
+ghost use Rattle.duct_cli.specs.declared.crew.TheConstants.{MAX_WORKERS};
+
+use duct_ports::Gate;
+use std::thread::Threads;
+
+/// The most workers.
+pub const MAX_WORKERS: u32 = 32;
+
+/// How many workers condense where the words name none.
+pub const DEFAULT_WORKERS: u32 = 4;
+
+/// Threads of a runtime, each of which enters a gate before it condenses a section.
+#[derive(Drop)]
+pub struct Crew<'a, T, G> {
+    pub rt: &'a T,
+    pub gate: &'a G,
+    pub workers: u32,
+    ghost within: { (0 < workers) × (workers ≤ MAX_WORKERS) },
+}
