@@ -1,6 +1,6 @@
 """The definitions of docs/RULES.md in plain Python: designs are listed and losses added along whole paths.
 
-Nothing here is the program's: no front, no budget, no order of work. Networks come from the text of a network file.
+Nothing here is the program's: no front, no budget, no order of work.
 Losses and pressures are in dPa, money in cents; sections, sizes and fans count from 0 here.
 """
 import itertools
@@ -9,20 +9,20 @@ import tomllib
 
 
 class Network:
-    """A network as its file has it."""
+    """A network: its sections by name, side and neighbour, the names of their sizes, their pairs by both sizes, and the
+    fans by name, pressure and cost."""
 
-    def __init__(self, text):
-        doc = tomllib.loads(text)
-        self.name = doc["name"]
-        self.fans = [(fan["name"], fan["pressure"], fan["cost"]) for fan in doc.get("fan", [])]
+    def __init__(self, name, sections, sizes, pairs, fans):
+        self.name = name
+        self.fans = fans
         self.return_fans = []
-        sections = doc["section"]
+        self.refusals = []
         place = {section["name"]: s for s, section in enumerate(sections)}
         self.names = [section["name"] for section in sections]
         self.sides = [section["side"] for section in sections]
         self.neighbours = [place.get(section.get("neighbour")) for section in sections]
-        self.sizes = [section["sizes"] for section in sections]
-        self.pairs = [{(k - 1, max(g - 1, 0)): (loss, price) for k, g, loss, price in section["pairs"]} for section in sections]
+        self.sizes = sizes
+        self.pairs = pairs
         self.sections = range(len(sections))
         self.leaves = [s for s in self.sections if s not in self.neighbours]
         self.cap = max((pressure for _, pressure, _ in self.fans), default=0)
@@ -41,6 +41,16 @@ class Network:
     def beyond(self, s):
         """The section and all whose way passes it."""
         return [x for x in self.sections if s in self.way(x)]
+
+
+def network_of(text):
+    """The network of a network file."""
+    doc = tomllib.loads(text)
+    sections = doc["section"]
+    return Network(
+        doc["name"], sections, [section["sizes"] for section in sections],
+        [{(k - 1, max(g - 1, 0)): (loss, price) for k, g, loss, price in section["pairs"]} for section in sections],
+        [(fan["name"], fan["pressure"], fan["cost"]) for fan in doc.get("fan", [])])
 
 
 def worst(net, losses, side):
@@ -94,7 +104,44 @@ def design_text(net, design):
 
 def none_text(net):
     """The text where no design meets the rules."""
-    return f"design 1\nproject {net.name}\nnone\nend\n"
+    lines = ["design 1", f"project {net.name}", "none", *(f"refused {rule} {count}" for rule, count in net.refusals)]
+    return "\n".join([*lines, "end", ""])
+
+
+def wrong_sums(net, text):
+    """What does not add up in the text of a design; None where all does."""
+    rows = [line.split(" ") for line in text.split("\n")]
+    return_fans = [row for row in rows if row[0] == "return-fan"]
+    heading = ["design", "project", "fan", *["return-fan"] * len(return_fans), "supply", "return"]
+    if [row[0] for row in rows] != [*heading, *["section"] * len(net.names), "cost", "end", ""]:
+        return "the lines"
+    if text.split("\n")[0] != ("design 2" if return_fans else "design 1") or len(return_fans) > 1:
+        return "the first line"
+    fan, (supply, back), sections, total = rows[2], rows[len(heading) - 2:len(heading)], rows[len(heading):-3], rows[-3]
+    offers = [(fan, net.fans), *((row, net.return_fans) for row in return_fans)]
+    if any((name, int(pressure), int(cost)) not in fans for (_, name, pressure, cost), fans in offers):
+        return "a fan"
+    if [row[1] for row in sections] != net.names or any(row[2] not in net.sizes[s] for s, row in enumerate(sections)):
+        return "a section's name or size"
+    sizes = [net.sizes[s].index(row[2]) for s, row in enumerate(sections)]
+    if any(net.pair(sizes, s) != (int(row[3]), int(row[4])) for s, row in enumerate(sections)):
+        return "a section's loss or price"
+    losses = [int(row[3]) for row in sections]
+    dampers = [int(row[5]) for row in sections]
+    heads = {"supply": int(supply[2]), "return": int(back[2])}
+    if [int(supply[1]), int(back[1])] != [worst(net, losses, side) for side in ("supply", "return")]:
+        return "a worst loss"
+    wanted = int(return_fans[0][2]) if return_fans else int(back[1])
+    if heads != {"supply": int(fan[2]) - (0 if return_fans else wanted), "return": wanted}:
+        return "the heads"
+    if min(dampers) < 0:
+        return "a damper below 0"
+    for leaf in net.leaves:
+        if sum(losses[s] + dampers[s] for s in net.way(leaf)) != heads[net.sides[leaf]]:
+            return f"the path of {net.names[leaf]}"
+    if int(total[1]) != sum(int(row[4]) for row in sections) + sum(int(row[3]) for row, _ in offers):
+        return "the cost"
+    return None
 
 
 def choices(net, s, beside):
