@@ -7,3 +7,4 @@ pub mod Prices
 pub mod Side
 pub mod Lines
 pub mod Options
+pub mod Results

@@ -77,6 +77,8 @@ pub enum Reason {
     Form,
     /// A form of input that isn't handled yet.
     Unbuilt,
+    /// No section has the name, or a listed section's name isn't the project's.
+    UnknownSection,
 }
 
 /// Memory ran out.
