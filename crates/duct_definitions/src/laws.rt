@@ -6,6 +6,7 @@ ghost use Rattle.duct_definitions.specs.Network.{Network};
 ghost use Rattle.duct_definitions.specs.Tree.{Tree, IsTree, section_count};
 ghost use Rattle.duct_definitions.specs.Order.{IsBest, NoneMeets};
 ghost use Rattle.duct_definitions.specs.declared.airflow.TheConstants.{MAX_FLOW, MAX_LEAK, THOUSANDTHS};
+ghost use Rattle.duct_definitions.specs.declared.duct.TheConstants.{MIN_DENSITY, MAX_DENSITY, MAX_LENGTH, MAX_LOCAL, MAX_DEVICE};
 ghost use Rattle.duct_definitions.specs.declared.limits.TheConstants.{
   MAX_SECTIONS,
   MAX_SIZES,
@@ -47,6 +48,15 @@ pub fn airflow_limits_as_numbers()
     ensures flow { MAX_FLOW ≡ 200000 }
     ensures leak { MAX_LEAK ≡ 200 }
     ensures whole { THOUSANDTHS ≡ 1000 }
+{}
+
+/// The limits of what is known of a section in numbers: g/m3 for a density, mm for a length, thousandths for a local
+/// coefficient, dPa for the loss of a device.
+pub fn duct_limits_as_numbers()
+    ensures density { (MIN_DENSITY ≡ 1) × (MAX_DENSITY ≡ 2000) }
+    ensures length { MAX_LENGTH ≡ 1000000 }
+    ensures local { MAX_LOCAL ≡ 1000000 }
+    ensures device { MAX_DEVICE ≡ 20000 }
 {}
 
 /// Leaks of 20, 50 and 0 thousandths: 150 l/s at a leaf become 158, 250 stay 250, and the 408 that are to pass the

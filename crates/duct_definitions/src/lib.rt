@@ -7,12 +7,14 @@
 
 mod airflow;
 mod design;
+mod duct;
 pub mod laws;
 mod limits;
 mod listed;
 
 pub use airflow::{MAX_FLOW, MAX_LEAK, THOUSANDTHS};
 pub use design::{Design, NetFan, Pair};
+pub use duct::{MAX_DENSITY, MAX_DEVICE, MAX_LENGTH, MAX_LOCAL, MIN_DENSITY};
 pub use limits::{
     MAX_FAN_COST, MAX_FANS, MAX_LOSS, MAX_PRESSURE, MAX_PRICE, MAX_SECTIONS, MAX_SIZES,
 };

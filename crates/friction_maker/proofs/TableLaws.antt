@@ -11,7 +11,8 @@ use Rattle.friction_table.specs.Reading.{table_of}
 use Rattle.std.proofs.lemmas.List.Elements.{All-nil}
 use Rattle.std.proofs.Math.Nat.{mul-le-mul_left}
 use Rattle.size_catalogue.specs.Catalogue.{Catalogue}
-use Rattle.friction_table.specs.declared.limits.TheConstants.{MAX_FLOW, MAX_RATE, MAX_ROWS}
+use Rattle.duct_definitions.specs.declared.airflow.TheConstants.{MAX_FLOW}
+use Rattle.friction_table.specs.declared.limits.TheConstants.{MAX_RATE, MAX_ROWS}
 use Rattle.friction_table.specs.declared.row.FlowRate.{FlowRate}
 use Rattle.friction_table.specs.Rates.{IsRate, IsTable, AreRising}
 use Rattle.friction_maker.specs.declared.air.Duct.{Duct}

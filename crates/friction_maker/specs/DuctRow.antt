@@ -3,7 +3,8 @@ use Rattle.std.specs.Prelude.{◌≤◌, Option, Some, IsTrue}
 use Rattle.duct_units.specs.Options.{◌>>=◌}
 use Rattle.duct_units.specs.Name.{is_name}
 use Rattle.file_definitions.specs.Rows.{Row, name_field, number_field}
-use Rattle.friction_table.specs.declared.limits.TheConstants.{MIN_FLOW, MAX_FLOW, MAX_ROWS}
+use Rattle.duct_definitions.specs.declared.airflow.TheConstants.{MAX_FLOW}
+use Rattle.friction_table.specs.declared.limits.TheConstants.{MIN_FLOW, MAX_ROWS}
 use Rattle.friction_maker.specs.declared.limits.TheConstants.{MIN_DIAMETER, MAX_DIAMETER, MAX_ROUGH, MIN_ROWS}
 use Rattle.friction_maker.specs.declared.row.DuctRow.{DuctRow}
 

@@ -11,7 +11,8 @@ use Rattle.duct_units.specs.Rules.{Rule, at_row}
 use Rattle.file_definitions.specs.Rows.{Row, RowForm, rows_of, reading}
 use Rattle.name_index.specs.Places.{place_of}
 use Rattle.size_catalogue.specs.Catalogue.{Catalogue, names_of}
-use Rattle.friction_table.specs.declared.limits.TheConstants.{MAX_FLOW, MAX_RATE}
+use Rattle.duct_definitions.specs.declared.airflow.TheConstants.{MAX_FLOW}
+use Rattle.friction_table.specs.declared.limits.TheConstants.{MAX_RATE}
 use Rattle.friction_table.specs.declared.row.FlowRate.{FlowRate}
 use Rattle.friction_table.specs.Rates.{IsTable}
 use Rattle.friction_table.specs.Reading.{table_of, row_of_each}

@@ -10,8 +10,10 @@ use Rattle.std.specs.Prelude.{◌≡◌, ◌↔◌, ℕ, zero, suc, ◌+◌, ◌
 use Rattle.std.specs.Int.{div_ceil}
 use Rattle.duct_units.specs.Ceiling.{IsCeiling}
 use Rattle.size_catalogue.specs.declared.limits.TheConstants.{MIN_AREA, MAX_AREA}
-use Rattle.friction_table.specs.declared.limits.TheConstants.{MIN_FLOW, MAX_FLOW}
-use Rattle.friction_maker.specs.declared.limits.TheConstants.{MIN_DIAMETER, MAX_DIAMETER, MAX_ROUGH, MIN_DENSITY, MAX_DENSITY, MIN_VISCOSITY, MAX_VISCOSITY, ROUGH_UNITS, REYNOLDS_SHARE, REYNOLDS_UNITS, FACTOR_SCALE, CORRECTED_BELOW, CORRECTION_SHARE, CORRECTION_MORE, HUNDREDTHS, RATE_UNITS, MAX_ROOT}
+use Rattle.duct_definitions.specs.declared.airflow.TheConstants.{MAX_FLOW}
+use Rattle.friction_table.specs.declared.limits.TheConstants.{MIN_FLOW}
+use Rattle.duct_definitions.specs.declared.duct.TheConstants.{MIN_DENSITY, MAX_DENSITY}
+use Rattle.friction_maker.specs.declared.limits.TheConstants.{MIN_DIAMETER, MAX_DIAMETER, MAX_ROUGH, MIN_VISCOSITY, MAX_VISCOSITY, ROUGH_UNITS, REYNOLDS_SHARE, REYNOLDS_UNITS, FACTOR_SCALE, CORRECTED_BELOW, CORRECTION_SHARE, CORRECTION_MORE, HUNDREDTHS, RATE_UNITS, MAX_ROOT}
 use Rattle.friction_maker.specs.declared.air.Duct.{Duct}
 use Rattle.friction_maker.specs.declared.air.Air.{Air}
 

@@ -1,15 +1,17 @@
 //! Laws of made rates. Each is the contract of a call that has nothing to do.
 ghost use Rattle.std.specs.Prelude.{◌≡◌, length};
-ghost use Rattle.friction_table.specs.declared.limits.TheConstants.{MIN_FLOW, MAX_FLOW, MAX_RATE, MAX_ROWS};
+ghost use Rattle.duct_definitions.specs.declared.airflow.TheConstants.{MAX_FLOW};
+ghost use Rattle.friction_table.specs.declared.limits.TheConstants.{MIN_FLOW, MAX_RATE, MAX_ROWS};
 ghost use Rattle.friction_maker.specs.Making.{header};
 ghost use Rattle.friction_maker.specs.Rate.{HasRate, IsDuct, IsAir, IsFlow, IsRoot, root_of};
 
 use crate::air::{Air, Duct};
 use crate::limits::{
     COLUMNS, CORRECTED_BELOW, CORRECTION_MORE, CORRECTION_SHARE, FACTOR_SCALE, HUNDREDTHS,
-    MAX_DENSITY, MAX_DIAMETER, MAX_ROUGH, MAX_VISCOSITY, MIN_DENSITY, MIN_DIAMETER, MIN_ROWS,
-    MIN_VISCOSITY, RATE_UNITS, REYNOLDS_SHARE, REYNOLDS_UNITS, ROUGH_UNITS,
+    MAX_DIAMETER, MAX_ROUGH, MAX_VISCOSITY, MIN_DIAMETER, MIN_ROWS, MIN_VISCOSITY, RATE_UNITS,
+    REYNOLDS_SHARE, REYNOLDS_UNITS, ROUGH_UNITS,
 };
+use duct_definitions::{MAX_DENSITY, MIN_DENSITY};
 
 /// The limits of docs/FORMATS.md, "Ducts", and the numbers of docs/RULES.md, "Made friction rates". Diameters are in
 /// mm, roughness in micrometres, airflow in l/s, the rate in mPa/m, density in g/m3, viscosity in nPa s.

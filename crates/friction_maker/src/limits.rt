@@ -15,12 +15,6 @@ pub const MAX_ROUGH: u64 = 10_000;
 /// The least number of rows that are made for a size.
 pub const MIN_ROWS: u64 = 1;
 
-/// The least density of air, g/m3.
-pub const MIN_DENSITY: u64 = 1;
-
-/// The greatest density of air, g/m3.
-pub const MAX_DENSITY: u64 = 2_000;
-
 /// The least viscosity of air, nPa s.
 pub const MIN_VISCOSITY: u64 = 1;
 

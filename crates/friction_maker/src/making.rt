@@ -1,7 +1,7 @@
 //! The rates of one size, and a row of the file that they make.
 ghost use Rattle.std.specs.Prelude.{◌≡◌, ◌*◌, ◌<◌, ◌≤◌, true, IfOk};
 ghost use Rattle.std.specs.Prelude.{length as count};
-ghost use Rattle.friction_table.specs.declared.limits.TheConstants.{MAX_FLOW};
+ghost use Rattle.duct_definitions.specs.declared.airflow.TheConstants.{MAX_FLOW};
 ghost use Rattle.friction_maker.specs.DuctRow.{IsRowInBounds};
 ghost use Rattle.friction_maker.specs.Rate.{IsDuct, IsAir, IsFlow};
 ghost use Rattle.friction_maker.specs.Making.{made_at, made_table, duct_of, table_for, are_low, IsMadeTable};

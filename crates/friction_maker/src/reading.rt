@@ -1,7 +1,8 @@
 //! Making the rates that a ducts file asks for.
 ghost use Rattle.std.specs.Prelude.{◌≤◌, ◌<◌, IfOk, length as count};
 ghost use Rattle.duct_units.specs.Rules.{Gives};
-ghost use Rattle.friction_maker.specs.declared.limits.TheConstants.{MIN_DENSITY, MAX_DENSITY, MIN_VISCOSITY, MAX_VISCOSITY};
+ghost use Rattle.duct_definitions.specs.declared.duct.TheConstants.{MIN_DENSITY, MAX_DENSITY};
+ghost use Rattle.friction_maker.specs.declared.limits.TheConstants.{MIN_VISCOSITY, MAX_VISCOSITY};
 ghost use Rattle.friction_maker.specs.Rate.{IsAir};
 ghost use Rattle.friction_maker.specs.Making.{tables_of, air_of, AreMade};
 ghost use Rattle.friction_maker.specs.MadeRows.{made_of, AreInOrder, AreRowsOf, AreOfSizes};

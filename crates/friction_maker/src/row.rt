@@ -4,8 +4,9 @@ ghost use Rattle.friction_maker.specs.DuctRow.{duct_of_row, IsRowInBounds};
 
 use crate::limits::{MAX_DIAMETER, MAX_ROUGH, MIN_DIAMETER, MIN_ROWS};
 use csv_fields::Rows;
+use duct_definitions::MAX_FLOW;
 use duct_units::Name;
-use friction_table::{MAX_FLOW, MAX_ROWS, MIN_FLOW};
+use friction_table::{MAX_ROWS, MIN_FLOW};
 
 /// What a row of a ducts file says: a size, and which rates are made for it.
 #[derive(Clone, Copy)]

@@ -6,7 +6,8 @@ use Rattle.std.proofs.lemmas.Int.{ints}
 use Rattle.std.proofs.lemmas.Nat.{mul-le}
 use Rattle.std.proofs.lemmas.Option.{slice_get_read}
 use Rattle.duct_units.proofs.CeilingLaws.{is_ceiling, ceiling_alone}
-use Rattle.friction_table.specs.declared.limits.TheConstants.{MAX_LENGTH, MAX_RATE, MAX_FRICTION_LOSS, MILLIMETRES_PER_METRE, MILLIPASCALS_PER_DECIPASCAL}
+use Rattle.duct_definitions.specs.declared.duct.TheConstants.{MAX_LENGTH}
+use Rattle.friction_table.specs.declared.limits.TheConstants.{MAX_RATE, MAX_FRICTION_LOSS, MILLIMETRES_PER_METRE, MILLIPASCALS_PER_DECIPASCAL}
 use Rattle.friction_table.specs.declared.row.FlowRate.{FlowRate}
 use Rattle.friction_table.specs.declared.table.Fraction.{Fraction}
 use Rattle.friction_table.specs.Loss.{rate_at, IsLossOver, IsFrictionLoss, IsRateInBounds, Loses}

@@ -2,7 +2,8 @@
 use Rattle.std.specs.Prelude.{Option, Some}
 use Rattle.duct_units.specs.Options.{◌>>=◌}
 use Rattle.file_definitions.specs.Rows.{Row, name_field, number_field}
-use Rattle.friction_table.specs.declared.limits.TheConstants.{MIN_FLOW, MAX_FLOW, MAX_RATE}
+use Rattle.duct_definitions.specs.declared.airflow.TheConstants.{MAX_FLOW}
+use Rattle.friction_table.specs.declared.limits.TheConstants.{MIN_FLOW, MAX_RATE}
 use Rattle.friction_table.specs.declared.row.FrictionRow.{FrictionRow}
 
 -- what the row says; none where a field isn't of its form or lies out of its bound

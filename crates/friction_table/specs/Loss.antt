@@ -9,7 +9,8 @@
 use Rattle.std.specs.Prelude.{◌≡◌, ◌↔◌, ℕ, ◌+◌, ◌-◌, ◌*◌, ◌<◌, ◌≤◌, ◌==◌, slice_get, nat_le, List, [], ◌∷◌, Option, Some, None, option_map, find, pos, All, IsSomeAnd, if◌then◌else◌}
 use Rattle.std.specs.Int.{div_ceil}
 use Rattle.duct_units.specs.Ceiling.{IsCeiling}
-use Rattle.friction_table.specs.declared.limits.TheConstants.{MAX_FLOW, MAX_RATE, MILLIMETRES_PER_METRE, MILLIPASCALS_PER_DECIPASCAL}
+use Rattle.duct_definitions.specs.declared.airflow.TheConstants.{MAX_FLOW}
+use Rattle.friction_table.specs.declared.limits.TheConstants.{MAX_RATE, MILLIMETRES_PER_METRE, MILLIPASCALS_PER_DECIPASCAL}
 use Rattle.friction_table.specs.declared.row.FlowRate.{FlowRate}
 use Rattle.friction_table.specs.declared.table.Fraction.{Fraction}
 

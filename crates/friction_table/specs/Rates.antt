@@ -6,7 +6,8 @@
 --   RisesThroughout rows  so it is of any two rows
 --   IsTable rows          rates of one size
 use Rattle.std.specs.Prelude.{◌≡◌, ℕ, slice_get, ◌<◌, ◌≤◌, nat_lt, nat_le, Bool, true, ◌&&◌, List, [], ◌∷◌, length, All, Option, Some, None}
-use Rattle.friction_table.specs.declared.limits.TheConstants.{MAX_ROWS, MIN_FLOW, MAX_FLOW, MAX_RATE}
+use Rattle.duct_definitions.specs.declared.airflow.TheConstants.{MAX_FLOW}
+use Rattle.friction_table.specs.declared.limits.TheConstants.{MAX_ROWS, MIN_FLOW, MAX_RATE}
 use Rattle.friction_table.specs.declared.row.FlowRate.{FlowRate}
 
 -- the airflow and the rate lie within their bounds

@@ -9,12 +9,12 @@ ghost use Rattle.friction_table.specs.Loss.{IsAboveAll, IsFrictionLoss, IsLossOv
 ghost use Rattle.friction_table.specs.Reading.{friction_form, row_of_each, table_of, AddsRow};
 
 use crate::limits::{
-    COLUMNS, MAX_FLOW, MAX_FRICTION_LOSS, MAX_LENGTH, MILLIMETRES_PER_METRE,
-    MILLIPASCALS_PER_DECIPASCAL, MIN_FLOW,
+    COLUMNS, MAX_FRICTION_LOSS, MILLIMETRES_PER_METRE, MILLIPASCALS_PER_DECIPASCAL, MIN_FLOW,
 };
 use crate::row::{FlowRate, FrictionRow, friction_row};
 use crate::table::{Fraction, RateTable};
 use csv_fields::Rows;
+use duct_definitions::{MAX_FLOW, MAX_LENGTH};
 use duct_units::{Fault, NoMemory, ReadError, Reason};
 use size_catalogue::Sizes;
 use std::alloc::Global;

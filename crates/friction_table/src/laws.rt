@@ -4,18 +4,18 @@ ghost use Rattle.friction_table.specs.Loss.{Loses};
 ghost use Rattle.friction_table.specs.Reading.{header};
 
 use crate::limits::{
-    COLUMNS, MAX_FLOW, MAX_FRICTION_LOSS, MAX_LENGTH, MAX_RATE, MAX_ROWS, MILLIMETRES_PER_METRE,
+    COLUMNS, MAX_FRICTION_LOSS, MAX_RATE, MAX_ROWS, MILLIMETRES_PER_METRE,
     MILLIPASCALS_PER_DECIPASCAL, MIN_FLOW,
 };
+use duct_definitions::MAX_FLOW;
 
-/// The limits of docs/FORMATS.md, "Friction", as numbers. Airflow is in l/s, the rate in mPa/m, length in mm, the
-/// loss in dPa.
+/// The limits of docs/FORMATS.md, "Friction", as numbers. Airflow is in l/s, the rate in mPa/m, the loss
+/// in dPa.
 pub fn limits_as_numbers()
     ensures columns { (COLUMNS ≡ 3) × (count header ≡ 3) }
     ensures rows { MAX_ROWS ≡ 64 }
     ensures flow { (MIN_FLOW ≡ 1) × (MAX_FLOW ≡ 200_000) }
     ensures rate { MAX_RATE ≡ 1_000_000 }
-    ensures length { MAX_LENGTH ≡ 1_000_000 }
     ensures loss { MAX_FRICTION_LOSS ≡ 10_000_000 }
     ensures units { (MILLIMETRES_PER_METRE ≡ 1_000) × (MILLIPASCALS_PER_DECIPASCAL ≡ 100) }
 {}

@@ -14,7 +14,7 @@ mod table;
 pub use friction::Friction;
 pub use laws::{a_worked_loss, limits_as_numbers};
 pub use limits::{
-    COLUMNS, MAX_FLOW, MAX_FRICTION_LOSS, MAX_LENGTH, MAX_RATE, MAX_ROWS, MILLIMETRES_PER_METRE,
+    COLUMNS, MAX_FRICTION_LOSS, MAX_RATE, MAX_ROWS, MILLIMETRES_PER_METRE,
     MILLIPASCALS_PER_DECIPASCAL, MIN_FLOW,
 };
 pub use reading::read_friction;

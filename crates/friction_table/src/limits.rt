@@ -9,14 +9,8 @@ pub const MAX_ROWS: usize = 64;
 /// The least airflow, l/s.
 pub const MIN_FLOW: u64 = 1;
 
-/// The greatest airflow, l/s.
-pub const MAX_FLOW: u64 = 200_000;
-
 /// The greatest rate, mPa/m.
 pub const MAX_RATE: u64 = 1_000_000;
-
-/// The greatest length of a section, mm.
-pub const MAX_LENGTH: u64 = 1_000_000;
 
 /// A length in mm by a rate in mPa/m, over so many, is in mPa.
 pub const MILLIMETRES_PER_METRE: u64 = 1_000;

@@ -3,8 +3,9 @@ ghost use Rattle.std.specs.Prelude.{◌≡◌, IfSome};
 ghost use Rattle.friction_table.specs.FrictionRow.{row_of_fields};
 ghost use Rattle.friction_table.specs.Rates.{IsRate};
 
-use crate::limits::{MAX_FLOW, MAX_RATE, MIN_FLOW};
+use crate::limits::{MAX_RATE, MIN_FLOW};
 use csv_fields::Rows;
+use duct_definitions::MAX_FLOW;
 use duct_units::Name;
 
 /// The friction rate of a size at an airflow.

@@ -4,8 +4,9 @@ ghost use Rattle.std.specs.Prelude.{length as count};
 ghost use Rattle.friction_table.specs.Rates.{AreRising, IsRate, IsTable, may_follow};
 ghost use Rattle.friction_table.specs.Loss.{IsRateInBounds, Parts, rate_at, rate_between, IsAboveAll};
 
-use crate::limits::{MAX_FLOW, MAX_RATE, MAX_ROWS};
+use crate::limits::{MAX_RATE, MAX_ROWS};
 use crate::row::FlowRate;
+use duct_definitions::MAX_FLOW;
 use duct_units::NoMemory;
 use std::alloc::Global;
 use std::marker::Model;

@@ -6,7 +6,9 @@ use Rattle.file_definitions.specs.Rows.{Row, has_field, name_field, number_field
 use Rattle.name_index.specs.Places.{place_of}
 use Rattle.size_catalogue.specs.declared.row.Size.{Size}
 use Rattle.size_catalogue.specs.Catalogue.{names_of}
-use Rattle.friction_table.specs.declared.limits.TheConstants.{MIN_FLOW, MAX_FLOW, MAX_LENGTH}
+use Rattle.duct_definitions.specs.declared.airflow.TheConstants.{MAX_FLOW}
+use Rattle.duct_definitions.specs.declared.duct.TheConstants.{MAX_LENGTH, MIN_DENSITY, MAX_DENSITY, MAX_LOCAL, MAX_DEVICE}
+use Rattle.friction_table.specs.declared.limits.TheConstants.{MIN_FLOW}
 use Rattle.friction_table.specs.Loss.{friction_loss}
 use Rattle.friction_table.specs.Reading.{table_of}
 use Rattle.fitting_tables.specs.Coefficient.{coefficient_of}
@@ -14,7 +16,6 @@ use Rattle.fitting_tables.specs.Fittings.{cells_of}
 use Rattle.fan_points.specs.declared.limits.TheConstants.{MAX_POINTS, MAX_HOURS, MAX_TARIFF, MAX_WORTH}
 use Rattle.fan_points.specs.declared.row.FanRow.{FanRow}
 use Rattle.fan_points.specs.Energy.{energy_of, serves}
-use Rattle.section_loss.specs.declared.limits.TheConstants.{MIN_DENSITY, MAX_DENSITY, MAX_LOCAL, MAX_DEVICE}
 use Rattle.section_loss.specs.declared.facts.SectionFacts.{SectionFacts}
 use Rattle.section_loss.specs.Loss.{junction_loss_of, loss_of}
 use Rattle.section_loss.specs.Price.{is_stepped, price_of}

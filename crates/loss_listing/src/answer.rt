@@ -6,8 +6,9 @@ ghost use Rattle.loss_listing.specs.Answers.{answer_of, amount_of, friction_answ
 use crate::catalogues::Catalogues;
 use crate::section::{junction_answer, loss_answer};
 use csv_fields::Rows;
+use duct_definitions::{MAX_FLOW, MAX_LENGTH};
 use fan_points::{Energy, MAX_HOURS, MAX_TARIFF, MAX_WORTH, eligible, energy};
-use friction_table::{MAX_FLOW, MAX_LENGTH, MIN_FLOW};
+use friction_table::MIN_FLOW;
 use section_loss::{is_stepped, price};
 
 /// The greatest number of a question that no limit bounds.

@@ -9,10 +9,9 @@ ghost use Rattle.loss_listing.specs.Answers.{facts_at, joined_facts, junction_an
 use crate::answer::{Answer, amount};
 use crate::catalogues::Catalogues;
 use csv_fields::Rows;
-use friction_table::{MAX_FLOW, MAX_LENGTH, MIN_FLOW};
-use section_loss::{
-    MAX_DENSITY, MAX_DEVICE, MAX_LOCAL, MIN_DENSITY, SectionFacts, junction_loss, loss,
-};
+use duct_definitions::{MAX_DENSITY, MAX_DEVICE, MAX_FLOW, MAX_LENGTH, MAX_LOCAL, MIN_DENSITY};
+use friction_table::MIN_FLOW;
+use section_loss::{SectionFacts, junction_loss, loss};
 use size_catalogue::Size;
 
 /// What the section loses.

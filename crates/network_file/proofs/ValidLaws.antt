@@ -10,10 +10,9 @@ use Rattle.duct_units.specs.Name.{is_name}
 use Rattle.duct_units.specs.Rules.{Rule, first_broken, at_file}
 use Rattle.duct_units.proofs.RuleLaws.{first_broken-append, both_none, rule_holds}
 use Rattle.duct_definitions.specs.Network.{AreNames, AreFans, IsFan, IsNetwork, IsSection, IsBounded, columns, columns_beside, size_count}
-use Rattle.duct_definitions.specs.declared.limits.TheConstants.{MAX_PRESSURE, MAX_FAN_COST}
+use Rattle.duct_definitions.specs.declared.limits.TheConstants.{MAX_PRESSURE, MAX_FAN_COST, MAX_SIZES, MAX_FANS}
 use Rattle.duct_units.specs.declared.fault.Reason.TheVariants.{Field}
 use Rattle.file_definitions.specs.Document.{name_at, text_at}
-use Rattle.duct_definitions.specs.declared.limits.TheConstants.{MAX_SIZES, MAX_FANS}
 use Rattle.network_file.specs.SectionTables.{SectionEntry, entry_of, table_names, section_rules, section_table_rules, all_section_rules, tree_sections, no_tree_section}
 use Rattle.network_file.specs.Pairs.{all_size_rules, size_name_rules, all_pair_rules, size_and_pair_rules_after, all_size_and_pair_rules, section_size_count, neighbour_size_count, rows_of, pair_in, columns_of, pairs_of_section}
 use Rattle.section_tables.specs.declared.tree_section.TreeSection.{TreeSection}

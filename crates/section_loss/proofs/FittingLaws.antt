@@ -10,7 +10,8 @@ use Rattle.fitting_tables.specs.declared.limits.TheConstants.{MIN_VALUE, MAX_VAL
 use Rattle.fitting_tables.specs.Coefficient.{IsWeighed}
 use Rattle.fitting_tables.proofs.WeightLaws.{times_within}
 use Rattle.size_catalogue.specs.declared.limits.TheConstants.{MIN_AREA, MAX_AREA}
-use Rattle.section_loss.specs.declared.limits.TheConstants.{MAX_FITTING_LOSS, THOUSAND}
+use Rattle.duct_definitions.specs.declared.airflow.TheConstants.{THOUSANDTHS}
+use Rattle.section_loss.specs.declared.limits.TheConstants.{MAX_FITTING_LOSS}
 use Rattle.section_loss.specs.Fitting.{ratio_of, IsRatio}
 
 -- the square of an area
@@ -45,4 +46,4 @@ ceiling_within n q p d weighed most low is =
 -- a whole number of thousandths that was rounded up is the ratio
 pub ratio_is : (part whole ratio : ℕ) → 1 ≤ whole → ratio ≡ ratio_of part whole → IsRatio part whole ratio
 ratio_is part whole ratio some is =
-    is_ceiling (pos (THOUSAND * part)) (pos whole) (pos ratio) (omega (arith, ints, some)) (ap (λ (n : ℕ). pos n) is)
+    is_ceiling (pos (THOUSANDTHS * part)) (pos whole) (pos ratio) (omega (arith, ints, some)) (ap (λ (n : ℕ). pos n) is)

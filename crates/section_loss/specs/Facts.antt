@@ -3,9 +3,10 @@
 --   IsJoined             where the section has a junction, its table is one of the fittings' and the neighbour has air
 use Rattle.std.specs.Prelude.{◌<◌, ◌≤◌, length}
 use Rattle.std.specs.Option.{ForSome}
-use Rattle.friction_table.specs.declared.limits.TheConstants.{MIN_FLOW, MAX_FLOW, MAX_LENGTH}
+use Rattle.duct_definitions.specs.declared.airflow.TheConstants.{MAX_FLOW}
+use Rattle.duct_definitions.specs.declared.duct.TheConstants.{MAX_LENGTH, MIN_DENSITY, MAX_DENSITY, MAX_LOCAL, MAX_DEVICE}
+use Rattle.friction_table.specs.declared.limits.TheConstants.{MIN_FLOW}
 use Rattle.fitting_tables.specs.Fittings.{Tables}
-use Rattle.section_loss.specs.declared.limits.TheConstants.{MIN_DENSITY, MAX_DENSITY, MAX_LOCAL, MAX_DEVICE}
 use Rattle.section_loss.specs.declared.facts.SectionFacts.{SectionFacts}
 
 -- every number lies within its bounds

@@ -7,7 +7,8 @@
 use Rattle.std.specs.Prelude.{◌≡◌, ◌↔◌, ℕ, ◌*◌, ◌≤◌, ℤ, pos, ◌*ℤ◌}
 use Rattle.std.specs.Int.{div_ceil}
 use Rattle.duct_units.specs.Ceiling.{IsCeiling, ceiling}
-use Rattle.section_loss.specs.declared.limits.TheConstants.{VELOCITY_PRESSURE_UNITS, THOUSAND}
+use Rattle.duct_definitions.specs.declared.airflow.TheConstants.{THOUSANDTHS}
+use Rattle.section_loss.specs.declared.limits.TheConstants.{VELOCITY_PRESSURE_UNITS}
 
 -- the density in g/m3 by the square of the airflow in l/s, in the units of a velocity pressure
 abbrev pub velocity_product : ℕ → ℕ → ℕ
@@ -25,11 +26,11 @@ IsFittingLoss density flow area c loss =
 
 -- the part over the whole, in thousandths, rounded up
 abbrev pub ratio_of : ℕ → ℕ → ℕ
-ratio_of part whole = div_ceil (THOUSAND * part) whole
+ratio_of part whole = div_ceil (THOUSANDTHS * part) whole
 
 -- the least whole number of thousandths that is no less than the part over the whole
 abbrev pub IsRatio : ℕ → ℕ → ℕ → Type 0
-IsRatio part whole ratio = IsCeiling (pos (THOUSAND * part)) (pos whole) (pos ratio)
+IsRatio part whole ratio = IsCeiling (pos (THOUSANDTHS * part)) (pos whole) (pos ratio)
 
 -- the air flows through the area at this velocity in mm/s: a litre is 1,000,000 mm3
 abbrev pub FlowsAt : ℕ → ℕ → ℕ → Type 0

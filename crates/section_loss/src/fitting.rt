@@ -6,7 +6,8 @@ ghost use Rattle.section_loss.specs.Facts.{IsFacts};
 ghost use Rattle.section_loss.specs.Fitting.{fitting_loss_of, ratio_of, velocity_product, IsFittingLoss, IsRatio};
 
 use crate::facts::SectionFacts;
-use crate::limits::{MAX_FITTING_LOSS, THOUSAND, VELOCITY_PRESSURE_UNITS};
+use crate::limits::{MAX_FITTING_LOSS, VELOCITY_PRESSURE_UNITS};
+use duct_definitions::THOUSANDTHS;
 use duct_units::ceil_div;
 
 /// What a coefficient in thousandths loses where the section's air passes the area in mm2, dPa: the coefficient times
@@ -39,5 +40,5 @@ pub fn ratio(part: u64, whole: u64) -> u64
     ensures value { result ≡ ratio_of part whole }
     ensures ceiling { IsRatio part whole result }
 {
-    (THOUSAND * part).div_ceil(whole)
+    (THOUSANDTHS * part).div_ceil(whole)
 }

@@ -7,18 +7,12 @@ ghost use Rattle.section_loss.specs.Loss.{loss_of, together_of};
 ghost use Rattle.section_loss.specs.Price.{price_of};
 ghost use Rattle.section_loss.specs.Worked.{main, left, right, narrow, wide, rates_of_narrow, rates_of_wide, fittings};
 
-use crate::limits::{
-    MAX_DENSITY, MAX_DEVICE, MAX_FITTING_LOSS, MAX_LOCAL, MAX_OWN_LOSS, MIN_DENSITY, THOUSAND,
-    VELOCITY_PRESSURE_UNITS,
-};
+use crate::limits::{MAX_FITTING_LOSS, MAX_OWN_LOSS, VELOCITY_PRESSURE_UNITS};
+use duct_definitions::MAX_DEVICE;
 
-/// The limits of what is known of a section, as numbers, and what no loss and no price passes. Density is in g/m3, the
-/// local coefficient in thousandths, losses in dPa, prices in cents.
+/// What no loss and no price passes, as numbers. Losses are in dPa, prices in cents.
 pub fn limits_as_numbers()
-    ensures density { (MIN_DENSITY ≡ 1) × (MAX_DENSITY ≡ 2_000) }
-    ensures local { MAX_LOCAL ≡ 1_000_000 }
-    ensures device { MAX_DEVICE ≡ 20_000 }
-    ensures units { (VELOCITY_PRESSURE_UNITS ≡ 5) × (THOUSAND ≡ 1_000) }
+    ensures units { VELOCITY_PRESSURE_UNITS ≡ 5 }
     ensures fitting { MAX_FITTING_LOSS ≡ 400_000_000_000_000 }
     ensures own { MAX_OWN_LOSS ≡ MAX_FRICTION_LOSS + MAX_FITTING_LOSS + MAX_DEVICE }
     ensures most { (MAX_LOSS ≡ 1_000_000_000_000_000) × (MAX_PRICE ≡ 1_000_000_000_000) }

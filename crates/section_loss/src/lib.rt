@@ -17,9 +17,6 @@ pub use laws::{
     a_coefficient_loses_by_velocity, a_worked_junction, a_worked_price, limits_as_numbers,
     losses_of_a_small_network,
 };
-pub use limits::{
-    MAX_DENSITY, MAX_DEVICE, MAX_FITTING_LOSS, MAX_LOCAL, MAX_OWN_LOSS, MIN_DENSITY, THOUSAND,
-    VELOCITY_PRESSURE_UNITS,
-};
+pub use limits::{MAX_FITTING_LOSS, MAX_OWN_LOSS, VELOCITY_PRESSURE_UNITS};
 pub use losses::{junction_loss, loss, own_loss, together};
 pub use prices::{is_stepped, price};

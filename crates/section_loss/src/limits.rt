@@ -1,23 +1,8 @@
-//! The limits of what is known of a section, and the units of its losses.
-
-/// The least density of the air, g/m3.
-pub const MIN_DENSITY: u64 = 1;
-
-/// The greatest density of the air, g/m3.
-pub const MAX_DENSITY: u64 = 2_000;
-
-/// The greatest local coefficient of a section, thousandths.
-pub const MAX_LOCAL: u64 = 1_000_000;
-
-/// The greatest loss of a device, dPa.
-pub const MAX_DEVICE: u64 = 20_000;
+//! The unit of losses, and what no loss passes.
 
 /// A density in g/m3 by the square of an airflow in l/s, over the square of an area in mm2, times so many, is a
 /// thousandth of the velocity pressure in dPa.
 pub const VELOCITY_PRESSURE_UNITS: u64 = 5;
-
-/// A ratio of one, in thousandths.
-pub const THOUSAND: u64 = 1_000;
 
 /// The greatest loss of a fitting, and of what it gains: that of the greatest coefficient at the greatest airflow of
 /// the densest air through the least area, dPa.

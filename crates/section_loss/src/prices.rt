@@ -4,7 +4,8 @@ ghost use Rattle.duct_definitions.specs.declared.limits.TheConstants.{MAX_PRICE}
 ghost use Rattle.size_catalogue.specs.Catalogue.{IsSize};
 ghost use Rattle.section_loss.specs.Price.{is_stepped, price_of, metres_price_of, IsMetresPrice};
 
-use friction_table::{MAX_LENGTH, MILLIMETRES_PER_METRE};
+use duct_definitions::MAX_LENGTH;
+use friction_table::MILLIMETRES_PER_METRE;
 use size_catalogue::{MAX_METRE_PRICE, Size};
 
 /// What a length in mm costs in the size, cents: the metres, rounded up, the join, and where the section is stepped the
