@@ -11,4 +11,5 @@ seen inside =
       asked = inside.asked;
       calls = inside.calls;
       faults = inside.faults;
+      moved = inside.moved;
     }

@@ -8,7 +8,7 @@
 --   SinkInMemory    the bytes that a sink took, its room, and the numbered calls
 --   can_write       the next write is no fault
 --   count_taken     how many bytes of a piece the next write takes
-use Rattle.std.specs.Prelude.{ℕ, ◌+◌, ◌-◌, ◌^◌, ◌==◌, ◌&&◌, List, [], length, Bool, not, nat_lt, min, Option, Some, is_some, if◌then◌else◌}
+use Rattle.std.specs.Prelude.{ℕ, ◌-◌, ◌==◌, ◌&&◌, List, [], length, Bool, not, nat_lt, min, Option, Some, is_some, if◌then◌else◌}
 use Rattle.std.specs.List.{list_any}
 use Rattle.duct_ports.specs.declared.held.HeldFile.{HeldFile}
 use Rattle.duct_ports.specs.Reading.{Contents}
@@ -32,13 +32,15 @@ next_fails calls = list_any (λ number. number == one_more calls.made) calls.fai
 abbrev pub after_call : Numbered → Numbered
 after_call calls = record calls { made = one_more calls.made }
 
--- files that are held, the bytes left of the one that is started, the names asked for, and the numbered calls
+-- files that are held, the bytes left of the one that is started, the names asked for, the numbered calls, and how many
+-- bytes were moved since the last name was asked for
 pub record FilesInMemory : Type 0 where
   pub files : List HeldFile
   pub left : Option (List ℕ)
   pub asked : List (List ℕ)
   pub calls : Numbered
   pub faults : ℕ
+  pub moved : ℕ
 
 -- the bytes that each name holds
 abbrev pub held_by : FilesInMemory → Option Contents

@@ -1,5 +1,12 @@
 -- What a source of files tells of the bytes that its names hold, and what was taken of them.
-use Rattle.std.specs.Prelude.{◌≡◌, ℕ, ◌<◌, List, length, Option, Some, IfSome}
+--   Contents        the bytes that each name holds
+--   Holds           the name holds these bytes
+--   HoldsMoreThan   the name holds more than so many
+--   IsBegun         those left are all that the name holds
+--   bytes_of        the bytes that the name holds
+--   TakesMoreThan   more than so many were taken of those that were left
+--   moved_after     how many bytes were moved, after so many more
+use Rattle.std.specs.Prelude.{◌≡◌, ℕ, ◌+◌, ◌-◌, ◌^◌, ◌<◌, List, length, min, Option, Some, IfSome}
 use Rattle.std.specs.Option.{option_map}
 use Rattle.std.specs.Io.KnownBytes.{Consumes}
 
@@ -26,3 +33,7 @@ bytes_of held name = option_map (λ contents. contents name) held
 -- a prefix of more than so many bytes was taken of those that were left
 abbrev pub TakesMoreThan : ℕ → Option (List ℕ) → Option (List ℕ) → Type 0
 TakesMoreThan limit old new = (taken : List ℕ) × (limit < length taken) × Consumes old new taken
+
+-- how many bytes were moved, after so many more; the count stops at u64::MAX
+abbrev pub moved_after : ℕ → ℕ → ℕ
+moved_after moved more = min (moved + more) (2 ^ 64 - 1)

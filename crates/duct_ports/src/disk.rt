@@ -2,7 +2,7 @@
 ghost use Rattle.std.specs.Prelude.{◌≡◌, ◌≢◌, ◌<◌, ◌≤◌, ◌++◌, [], ◌∷◌, refl, None, false, length, take, is_some, is_ok, IfOk, OnOk, OnErr, IsErr, MatchResult};
 ghost use Rattle.std.specs.Io.KnownBytes.{Consumes};
 ghost use Rattle.duct_ports.specs.Faults.{Rose, faults_after};
-ghost use Rattle.duct_ports.specs.Reading.{IsBegun};
+ghost use Rattle.duct_ports.specs.Reading.{IsBegun, moved_after};
 
 use crate::files::{FileFault, Files, MAX_NAMES};
 use crate::names::Names;
@@ -16,6 +16,7 @@ pub struct DiskFiles<'r, 'w, R: std::rt::Files> {
     asked: Names<'w>,
     file: Option<R::File>,
     faults: u64,
+    moved: u64,
 }
 
 impl<'r, 'w, R: std::rt::Files> DiskFiles<'r, 'w, R> {
@@ -30,6 +31,7 @@ impl<'r, 'w, R: std::rt::Files> DiskFiles<'r, 'w, R> {
             asked: Names::new(),
             file: None,
             faults: 0,
+            moved: 0,
         }
     }
 
@@ -37,6 +39,7 @@ impl<'r, 'w, R: std::rt::Files> DiskFiles<'r, 'w, R> {
     fn opened(&mut self, file: io::Result<R::File>) -> Result<(), FileFault>
         ensures ok { is_ok result ≡ is_ok file }
         ensures started { is_some self.new.file ≡ is_ok file }
+        ensures moved { self.new.moved ≡ self.old.moved }
         ensures names { self.new.asked ≡ self.old.asked }
         ensures faults { self.new.faults ≡ faults_after self.old.faults (is_ok file) }
         ensures count { self.old.faults ≤ self.new.faults }
@@ -55,17 +58,21 @@ impl<'r, 'w, R: std::rt::Files> DiskFiles<'r, 'w, R> {
         ensures kept { IfOk answer (λ n. n ≢ 0 → self.new.file ≡ self.old.file) }
         ensures ended { result ≡ Ok 0 → self.new.file ≡ None }
         ensures stopped { OnErr result (self.new.file ≡ None) }
+        ensures moved { IfOk result (λ n. self.new.moved ≡ moved_after self.old.moved n) }
+        ensures unmoved { OnErr result (self.new.moved ≡ self.old.moved) }
         ensures names { self.new.asked ≡ self.old.asked }
         ensures faults { self.new.faults ≡ faults_after self.old.faults (is_ok answer) }
         ensures count { self.old.faults ≤ self.new.faults }
         ensures cause { OnErr result (Rose self.old.faults self.new.faults) }
     {
         match answer {
-            Ok(0) => {
-                self.file = None;
-                Ok(0)
+            Ok(count) => {
+                if count == 0 {
+                    self.file = None;
+                }
+                self.moved = self.moved.saturating_add(count as u64);
+                Ok(count)
             }
-            Ok(count) => Ok(count),
             Err(_) => Err(self.fail()),
         }
     }
@@ -73,6 +80,7 @@ impl<'r, 'w, R: std::rt::Files> DiskFiles<'r, 'w, R> {
     /// Lets the file go, and counts a fault.
     fn fail(&mut self) -> FileFault
         ensures file { self.new.file ≡ None }
+        ensures moved { self.new.moved ≡ self.old.moved }
         ensures names { self.new.asked ≡ self.old.asked }
         ensures faults { self.new.faults ≡ faults_after self.old.faults false }
         ensures count { self.old.faults ≤ self.new.faults }
@@ -93,6 +101,8 @@ impl<'r, 'w, R: std::rt::Files> Files<'w> for DiskFiles<'r, 'w, R> {
 
     ghost started = { λ files. is_some files.file };
 
+    ghost moved = { λ files. files.moved };
+
     ghost fault_count = { λ files. files.faults };
 
     ghost tells = { λ _. refl };
@@ -109,10 +119,12 @@ impl<'r, 'w, R: std::rt::Files> Files<'w> for DiskFiles<'r, 'w, R> {
         ensures names { self.new.asked ≡ self.old.asked ++ name.now ∷ [] }
         ensures started { is_some self.new.file ≡ is_ok result }
         ensures begun { OnOk result (IsBegun None name.now None) }
+        ensures fresh { self.new.moved ≡ 0 }
         ensures count { self.old.faults ≤ self.new.faults }
         ensures cause { OnErr result (Rose self.old.faults self.new.faults) }
     {
         self.asked.add(name);
+        self.moved = 0;
         let file = fs::open(self.rt, name);
         self.opened(file)
     }
@@ -126,6 +138,8 @@ impl<'r, 'w, R: std::rt::Files> Files<'w> for DiskFiles<'r, 'w, R> {
         // What the trait promises.
         ensures bound { IfOk result (λ n. n ≤ length buf.old) }
         ensures bytes { IfOk result (λ n. Consumes None None (take n buf.new)) }
+        ensures moved { IfOk result (λ n. self.new.moved ≡ moved_after self.old.moved n) }
+        ensures unmoved { OnErr result (self.new.moved ≡ self.old.moved) }
         ensures idle { is_some self.old.file ≡ false → result ≡ Ok 0 }
         ensures ended { result ≡ Ok 0 → is_some self.new.file ≡ false }
         ensures stopped { OnErr result (is_some self.new.file ≡ false) }
@@ -135,12 +149,16 @@ impl<'r, 'w, R: std::rt::Files> Files<'w> for DiskFiles<'r, 'w, R> {
     {
         let answer = match &mut self.file {
             Some(file) => file.read(buf),
-            None => return Ok(0),
+            None => Ok(0),
         };
         self.answered(answer)
     }
 
     fn faults(&self) -> u64 {
         self.faults
+    }
+
+    fn moved(&self) -> u64 {
+        self.moved
     }
 }

@@ -2,7 +2,7 @@
 ghost use Rattle.std.specs.Prelude.{◌≡◌, ◌<◌, ◌≤◌, ◌++◌, [], ◌∷◌, ℕ, List, Option, Bool, false, length, take, is_some, is_ok, IfOk, OnOk, OnErr};
 ghost use Rattle.std.specs.Io.KnownBytes.{Consumes, IsAtEnd};
 ghost use Rattle.duct_ports.specs.Faults.{Rose};
-ghost use Rattle.duct_ports.specs.Reading.{Contents, IsBegun};
+ghost use Rattle.duct_ports.specs.Reading.{Contents, IsBegun, moved_after};
 
 use thiserror::Error;
 
@@ -30,6 +30,9 @@ pub trait Files<'w> {
     // whether a file is started
     ghost started: { Self → Bool };
 
+    // how many bytes were moved since the last name was asked for
+    ghost moved: { Self → ℕ };
+
     // the count of faults
     ghost fault_count: { Self → ℕ };
 
@@ -40,6 +43,7 @@ pub trait Files<'w> {
         ensures names { asked self.new ≡ asked self.old ++ name.now ∷ [] }
         ensures started { started self.new ≡ is_ok result }
         ensures begun { OnOk result (IsBegun (held self.old) name.now (left self.new)) }
+        ensures fresh { moved self.new ≡ 0 }
         ensures kept { held self.new ≡ held self.old }
         ensures count { fault_count self.old ≤ fault_count self.new }
         ensures cause { OnErr result (Rose (fault_count self.old) (fault_count self.new)) };
@@ -52,6 +56,8 @@ pub trait Files<'w> {
         ensures bound { IfOk result (λ n. n ≤ length buf.old) }
         ensures bytes { IfOk result (λ n.
             Consumes (left self.old) (left self.new) (take n buf.new)) }
+        ensures moved { IfOk result (λ n. moved self.new ≡ moved_after (moved self.old) n) }
+        ensures unmoved { OnErr result (moved self.new ≡ moved self.old) }
 
         // Where no file is started the answer is 0. After the answer 0 or a fault none is started.
         ensures idle { started self.old ≡ false → result ≡ Ok 0 }
@@ -66,6 +72,10 @@ pub trait Files<'w> {
     /// How many faults there were since the object was made. The count stops at `u64::MAX`.
     fn faults(&self) -> u64
         ensures { result ≡ fault_count self.now };
+
+    /// How many bytes were moved since the last name was asked for. The count stops at `u64::MAX`.
+    fn moved(&self) -> u64
+        ensures { result ≡ moved self.now };
 
     // The bytes left are told exactly where those of the names are. Since no call changes what the
     // names hold, whether an object tells its bytes never changes.

@@ -27,7 +27,7 @@ pub use held::HeldFile;
 pub use memory_files::MemoryFiles;
 pub use memory_sink::MemorySink;
 pub use names::Names;
-pub use read::{MAX_FILE_BYTES, TakeError, read_all};
+pub use read::{BUFFER_BYTES, MAX_FILE_BYTES, TakeError, read_all};
 pub use sink::{Sink, SinkFault};
 pub use standard_output::StdSink;
 pub use sure::{SureFiles, SureSink};

@@ -2,7 +2,7 @@
 ghost use Rattle.std.specs.Prelude.{◌≡◌, ◌<◌, ◌≤◌, ◌++◌, [], ◌∷◌, refl, None, false, length, take, is_ok, IfOk, OnOk, OnErr};
 ghost use Rattle.std.specs.Io.KnownBytes.{Consumes};
 ghost use Rattle.duct_ports.specs.Faults.{Rose};
-ghost use Rattle.duct_ports.specs.Reading.{IsBegun};
+ghost use Rattle.duct_ports.specs.Reading.{IsBegun, moved_after};
 
 use crate::calls::Calls;
 use crate::files::{FileFault, Files, MAX_NAMES};
@@ -19,6 +19,7 @@ pub struct MemoryFiles<'w> {
     asked: Names<'w>,
     calls: Calls,
     faults: u64,
+    moved: u64,
 }
 
 impl<'w> Model for MemoryFiles<'w> {
@@ -42,12 +43,14 @@ impl<'w> MemoryFiles<'w> {
         ensures names { result.asked ≡ [] }
         ensures calls { result.calls ≡ not_called fails }
         ensures faults { result.faults ≡ 0 }
+        ensures moved { result.moved ≡ 0 }
     {
         MemoryFiles {
             held: HeldFiles::new(files),
             asked: Names::new(),
             calls: Calls::new(fails),
             faults: 0,
+            moved: 0,
         }
     }
 
@@ -59,6 +62,7 @@ impl<'w> MemoryFiles<'w> {
         ensures count { self.old.faults ≤ self.new.faults }
         ensures names { self.new.asked ≡ self.old.asked }
         ensures calls { self.new.calls ≡ self.old.calls }
+        ensures moved { self.new.moved ≡ self.old.moved }
     {
         self.held.stop();
         self.faults = self.faults.saturating_add(1);
@@ -81,6 +85,8 @@ impl<'w> Files<'w> for MemoryFiles<'w> {
 
     ghost started = { is_started };
 
+    ghost moved = { λ source. source.moved };
+
     ghost fault_count = { λ source. source.faults };
 
     ghost tells = { λ _. refl };
@@ -99,11 +105,13 @@ impl<'w> Files<'w> for MemoryFiles<'w> {
         ensures names { self.new.asked ≡ self.old.asked ++ name.now ∷ [] }
         ensures started { is_started self.new ≡ is_ok result }
         ensures begun { OnOk result (IsBegun (held_by self.old) name.now (left_of self.new)) }
+        ensures fresh { self.new.moved ≡ 0 }
         ensures kept { self.new.files ≡ self.old.files }
         ensures count { self.old.faults ≤ self.new.faults }
         ensures cause { OnErr result (Rose self.old.faults self.new.faults) }
     {
         self.asked.add(name);
+        self.moved = 0;
         let fails = self.calls.next_fails();
         let is_held = self.held.start(name.as_bytes());
         if is_held && !fails {
@@ -125,6 +133,8 @@ impl<'w> Files<'w> for MemoryFiles<'w> {
         ensures bound { IfOk result (λ n. n ≤ length buf.old) }
         ensures bytes { IfOk result (λ n.
             Consumes (left_of self.old) (left_of self.new) (take n buf.new)) }
+        ensures moved { IfOk result (λ n. self.new.moved ≡ moved_after self.old.moved n) }
+        ensures unmoved { OnErr result (self.new.moved ≡ self.old.moved) }
         ensures idle { is_started self.old ≡ false → result ≡ Ok 0 }
         ensures ended { result ≡ Ok 0 → is_started self.new ≡ false }
         ensures stopped { OnErr result (is_started self.new ≡ false) }
@@ -133,16 +143,19 @@ impl<'w> Files<'w> for MemoryFiles<'w> {
         ensures count { self.old.faults ≤ self.new.faults }
         ensures cause { OnErr result (Rose self.old.faults self.new.faults) }
     {
-        if !self.held.is_started() {
-            return Ok(0);
-        }
-        if self.calls.next_fails() {
+        if self.held.is_started() && self.calls.next_fails() {
             return Err(self.fail());
         }
-        Ok(self.held.read(buf))
+        let count = self.held.read(buf);
+        self.moved = self.moved.saturating_add(count as u64);
+        Ok(count)
     }
 
     fn faults(&self) -> u64 {
         self.faults
+    }
+
+    fn moved(&self) -> u64 {
+        self.moved
     }
 }

@@ -1,5 +1,5 @@
 //! Reading a file whole.
-ghost use Rattle.std.specs.Prelude.{◌≡◌, ◌<◌, ◌≤◌, ◌++◌, [], ◌∷◌, false, length, vec_len, IfOk, OnOk, IfSome};
+ghost use Rattle.std.specs.Prelude.{◌≡◌, ◌<◌, ◌≤◌, ◌+◌, ◌⊎◌, ◌++◌, [], ◌∷◌, false, length, vec_len, IfOk, OnOk, IfSome};
 ghost use Rattle.duct_ports.specs.Faults.{Rose};
 ghost use Rattle.duct_ports.specs.Reading.{Holds, HoldsMoreThan, TakesMoreThan, bytes_of};
 
@@ -12,7 +12,7 @@ use thiserror::Error;
 pub const MAX_FILE_BYTES: usize = 4_194_304;
 
 /// The room that is offered at each read, in bytes.
-const BUFFER_BYTES: usize = 65_536;
+pub const BUFFER_BYTES: usize = 65_536;
 
 /// Why a file was not taken.
 #[derive(Debug, Drop, Error)]
@@ -37,6 +37,14 @@ pub fn read_all<'w, F: Files<'w>>(
     ensures whole { IfOk result (Holds (F.held files.old) name.now) }
     ensures bound { IfOk result (λ bytes. length bytes ≤ MAX_FILE_BYTES) }
     ensures ended { OnOk result (F.started files.new ≡ false) }
+
+    // Every byte that was moved is in an Ok. More than the most bytes of a file are moved exactly where the file is too
+    // long, and no further than by the read that goes past them; but memory may run out then.
+    ensures moved { IfOk result (λ bytes. F.moved files.new ≡ length bytes) }
+    ensures passed { result ≡ Err TakeError.TooLong → MAX_FILE_BYTES < F.moved files.new }
+    ensures passes { MAX_FILE_BYTES < F.moved files.new
+        → (result ≡ Err TakeError.TooLong) ⊎ (result ≡ Err TakeError.NoMemory) }
+    ensures within { F.moved files.new ≤ MAX_FILE_BYTES + BUFFER_BYTES }
 
     ensures too_long { result ≡ Err TakeError.TooLong
         → HoldsMoreThan MAX_FILE_BYTES (F.held files.old) name.now }
@@ -63,7 +71,7 @@ pub fn read_all<'w, F: Files<'w>>(
 
 // The buffer is made in a function of its own, so that no proof about the loop computes its zeros.
 fn read_buffer(alloc: Global) -> Result<Vec<u8>, AllocError>
-    ensures { IfOk result (λ buffer. 0 < vec_len buffer) }
+    ensures { IfOk result (λ buffer. vec_len buffer ≡ BUFFER_BYTES) }
 {
     vec![in alloc; 0u8; BUFFER_BYTES]
 }
@@ -74,11 +82,18 @@ fn read_rest<'w, F: Files<'w>>(
     files: &mut F,
     buffer: &mut [u8],
 ) -> Result<List<u8>, TakeError>
-    requires { 0 < length buffer.old }
+    requires room { 0 < length buffer.old }
+    requires few { length buffer.old ≤ BUFFER_BYTES }
+    requires fresh { F.moved files.old ≡ 0 }
 
     ensures whole { IfOk result (λ bytes. IfSome (F.left files.old) (λ rest. bytes ≡ rest)) }
     ensures bound { IfOk result (λ bytes. length bytes ≤ MAX_FILE_BYTES) }
     ensures ended { OnOk result (F.started files.new ≡ false) }
+    ensures moved { IfOk result (λ bytes. F.moved files.new ≡ length bytes) }
+    ensures passed { result ≡ Err TakeError.TooLong → MAX_FILE_BYTES < F.moved files.new }
+    ensures passes { MAX_FILE_BYTES < F.moved files.new
+        → (result ≡ Err TakeError.TooLong) ⊎ (result ≡ Err TakeError.NoMemory) }
+    ensures within { F.moved files.new ≤ MAX_FILE_BYTES + BUFFER_BYTES }
     ensures taken { result ≡ Err TakeError.TooLong
         → TakesMoreThan MAX_FILE_BYTES (F.left files.old) (F.left files.new) }
     ensures cause { result ≡ Err TakeError.Fault

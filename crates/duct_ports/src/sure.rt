@@ -12,6 +12,7 @@ use duct_units::List;
 pub struct SureFiles<'w> {
     held: HeldFiles,
     asked: Names<'w>,
+    moved: u64,
 }
 
 impl<'w> SureFiles<'w> {
@@ -26,6 +27,7 @@ impl<'w> SureFiles<'w> {
         SureFiles {
             held: HeldFiles::new(files),
             asked: Names::new(),
+            moved: 0,
         }
     }
 }
@@ -41,6 +43,8 @@ impl<'w> Files<'w> for SureFiles<'w> {
 
     ghost started = { λ files. is_some files.held.left };
 
+    ghost moved = { λ files. files.moved };
+
     ghost fault_count = { λ _. 0 };
 
     ghost tells = { λ _. refl };
@@ -49,16 +53,23 @@ impl<'w> Files<'w> for SureFiles<'w> {
 
     fn start(&mut self, name: &'w str) -> Result<(), FileFault> {
         self.asked.add(name);
+        self.moved = 0;
         let _is_held = self.held.start(name.as_bytes());
         Ok(())
     }
 
     fn read(&mut self, buf: &mut [u8]) -> Result<usize, FileFault> {
-        Ok(self.held.read(buf))
+        let count = self.held.read(buf);
+        self.moved = self.moved.saturating_add(count as u64);
+        Ok(count)
     }
 
     fn faults(&self) -> u64 {
         0
+    }
+
+    fn moved(&self) -> u64 {
+        self.moved
     }
 }
 

@@ -9,24 +9,25 @@ use duct_units::List;
 use std::alloc::{AllocError, Global};
 use std::test::Fail;
 
-/// A case a line: how many bytes are read, or none, and how many faults there are; a bar; the file, how many bytes it
-/// holds, and the call that fails. Call 0 is none, of files that never fail.
+/// A case a line: how many bytes are read, or none, how many faults there are, and how many bytes were moved; a bar; the
+/// file, how many bytes it holds, and the call that fails. Call 0 is none, of files that never fail.
 ///
 /// Call 1 starts the file, each further call gives up to 65,536 bytes, and one more finds the end. So 4,194,304 bytes
 /// take the calls 1 to 66, and of one byte more call 66 reads the last.
 const READS: &str = "
-a file was not read, 1 | a 5 1
-a file was not read, 1 | a 5 2
-a file was not read, 1 | a 5 3
-5 bytes, 0 | a 5 4
-0 bytes, 0 | a 0 3
-a file was not read, 1 | b 5 9
-a file was not read, 1 | a 4194304 66
-4194304 bytes, 0 | a 4194304 67
-a file was not read, 1 | a 4194305 66
-a file is too long, 0 | a 4194305 67
-5 bytes, 0 | a 5 0
-0 bytes, 0 | b 5 0
+a file was not read, 1, 0 | a 5 1
+a file was not read, 1, 0 | a 5 2
+a file was not read, 1, 5 | a 5 3
+5 bytes, 0, 5 | a 5 4
+0 bytes, 0, 0 | a 0 3
+a file was not read, 1, 0 | b 5 9
+a file was not read, 1, 4194304 | a 4194304 66
+4194304 bytes, 0, 4194304 | a 4194304 67
+a file was not read, 1, 4194304 | a 4194305 66
+a file is too long, 0, 4194305 | a 4194305 67
+a file is too long, 0, 4259840 | a 4300000 67
+5 bytes, 0, 5 | a 5 0
+0 bytes, 0, 0 | b 5 0
 ";
 
 /// A case a line: what was taken, and how many faults there are; a bar; the room, the call that fails, and the text,
@@ -80,10 +81,10 @@ fn taken<'w, F: Files<'w> + Drop>(
     requires { length (F.asked files) < MAX_NAMES }
 {
     let answer = read_all(alloc, &mut files, name);
-    let faults = files.faults();
+    let (faults, moved) = (files.faults(), files.moved());
     match answer {
-        Ok(bytes) => format!(in alloc; "{} bytes, {faults}", bytes.as_slice().len()),
-        Err(error) => format!(in alloc; "{error}, {faults}"),
+        Ok(bytes) => format!(in alloc; "{} bytes, {faults}, {moved}", bytes.as_slice().len()),
+        Err(error) => format!(in alloc; "{error}, {faults}, {moved}"),
     }
 }
 
