@@ -3,9 +3,10 @@
 use Rattle.std.proofs.Common.{◌≡◌, ℕ, suc, List, [], ◌∷◌, ◌++◌, Option, Some, None, refl, sym, ap, subst, ◌∙◌, append_assoc}
 use Rattle.std.proofs.lemmas.Option.{none-some, same_Some, some_pair_parts}
 use Rattle.duct_units.specs.Options.{◌>>=◌}
-use Rattle.design_text.specs.Texts.{cut, first_lines, Begins}
-use Rattle.design_text.proofs.WordLaws.{bind_some, cut-at, cut-found}
-use Rattle.design_text.proofs.LineLaws.{IsLine, IsReaderOf}
+use Rattle.line_words.specs.Words.{cut}
+use Rattle.line_words.specs.Readers.{IsLine, IsReaderOf}
+use Rattle.line_words.proofs.WordLaws.{bind_some, cut-at, cut-found}
+use Rattle.design_text.specs.Texts.{first_lines, Begins}
 
 -- the bytes are a text of some value
 abbrev pub Texts : {B : Type 0} → (B → List ℕ → Type 0) → List ℕ → Type 0

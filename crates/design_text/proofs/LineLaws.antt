@@ -1,89 +1,28 @@
 -- Lines: what a reader of a line finds is what the line spells, and what a line spells is found.
-use Rattle.std.proofs.Common.{◌≡◌, ℕ, ◌≤◌, true, cond, ◌&&◌, List, [], ◌∷◌, ◌++◌, Option, Some, None, decimal, refl, sym, ap, subst, ◌∙◌, arith, append_assoc}
+use Rattle.std.proofs.Common.{◌≡◌, ℕ, ◌≤◌, cond, ◌&&◌, List, [], ◌∷◌, ◌++◌, Option, Some, None, decimal, refl, sym, ap, subst, ◌∙◌, arith}
 use Rattle.std.specs.Prelude.{IsTrue, codes, nat_le}
-use Rattle.std.specs.List.{list_all}
 use Rattle.std.specs.Str.{bytes_eq}
 use Rattle.std.proofs.lemmas.Bool.{and_parts, leb-true, le-leb}
 use Rattle.std.proofs.lemmas.Option.{cond_some, some_pair_parts}
 use Rattle.duct_units.specs.Options.{◌>>=◌}
-use Rattle.duct_units.specs.Name.{is_name, is_name_byte}
-use Rattle.duct_units.specs.Lines.{line, words_after}
+use Rattle.duct_units.specs.Name.{is_name}
+use Rattle.duct_units.specs.Lines.{line}
 use Rattle.duct_definitions.specs.declared.listed.ListedFan.{ListedFan}
 use Rattle.duct_definitions.specs.declared.listed.ListedSection.{ListedSection}
 use Rattle.duct_definitions.specs.DesignText.{fan_line, section_line}
 use Rattle.design_text.specs.declared.words.TheConstants.{MAX_NUMBER}
 use Rattle.design_text.specs.Texts.{IsListedFan, IsListedSection}
-use Rattle.design_text.specs.Fields.{after_word, name_before, number_before, name_at, number_at, numbers_at, form_at, fan_at, section_at}
-use Rattle.design_text.proofs.WordLaws.{bind_some, IsFree, free-append, free_of_kind, cut-at, word_takes, word_again, name_takes, name_again, number_takes, number_again, name_free, number_free}
-
--- ---- a line and what stands behind it
-
--- the words behind the first, the line feed, and the rest
-abbrev behind : List (List ℕ) → List ℕ → List ℕ
-behind [] rest = 10 ∷ rest
-behind (word ∷ words) rest = 32 ∷ (word ++ behind words rest)
-
-behind-words : (words : List (List ℕ)) (rest : List ℕ) → words_after words ++ rest ≡ behind words rest
-behind-words [] rest = refl
-behind-words (word ∷ words) rest =
-    ap (λ (x : List ℕ). 32 ∷ x) (append_assoc word (words_after words) rest ∙ ap (λ (x : List ℕ). word ++ x) (behind-words words rest))
-
-line-behind : (first : List ℕ) (words : List (List ℕ)) (rest : List ℕ) → line first words ++ rest ≡ first ++ behind words rest
-unfolding line
-line-behind first words rest = append_assoc first (words_after words) rest ∙ ap (λ (x : List ℕ). first ++ x) (behind-words words rest)
-
--- no word has a line feed
-abbrev AreOfLine : List (List ℕ) → Type 0
-AreOfLine [] = Unit {0}
-AreOfLine (word ∷ words) = IsFree 10 word × AreOfLine words
-
--- bytes that are one line with its line feed
-pub record IsLine (bytes : List ℕ) : Type 0 where
-  pub before : List ℕ
-  pub free : IsFree 10 before
-  pub whole : bytes ≡ before ++ 10 ∷ []
-
-words_are : (words : List (List ℕ)) → AreOfLine words → IsLine (words_after words)
-words_are [] free = record { before = []; free = tt; whole = refl }
-words_are (word ∷ words) free =
-    let others = words_are words free.1 in
-    record {
-      before = 32 ∷ (word ++ others.before);
-      free = (refl, free-append 10 word others.before free.0 others.free);
-      whole = ap (λ (x : List ℕ). 32 ∷ x) (ap (λ (x : List ℕ). word ++ x) others.whole ∙ sym (append_assoc word others.before (10 ∷ [])));
-    }
-
-line_is : (first : List ℕ) (words : List (List ℕ)) → IsFree 10 first → AreOfLine words → IsLine (line first words)
-unfolding line
-line_is first words free others =
-    let rest = words_are words others in
-    record {
-      before = first ++ rest.before;
-      free = free-append 10 first rest.before free rest.free;
-      whole = ap (λ (x : List ℕ). first ++ x) rest.whole ∙ sym (append_assoc first rest.before (10 ∷ []));
-    }
-
--- what is read on a line in range is what the line spells
-pub record IsReaderOf {A : Type 0} (InRange : A → Type 0) (spelled : A → List ℕ) (read : List ℕ → Option (A × List ℕ)) : Type 0 where
-  pub takes : (bytes : List ℕ) (a : A) (rest : List ℕ) → read bytes ≡ Some (a, rest) → InRange a × (bytes ≡ spelled a ++ rest)
-  pub again : (a : A) (rest : List ℕ) → InRange a → read (spelled a ++ rest) ≡ Some (a, rest)
-  pub lines : (a : A) → InRange a → IsLine (spelled a)
+use Rattle.design_text.specs.Fields.{number_before, name_at, number_at, numbers_at, form_at, fan_at, section_at}
+use Rattle.line_words.specs.Words.{after_word, name_before}
+use Rattle.line_words.specs.Readers.{IsFree, IsReaderOf}
+use Rattle.line_words.proofs.WordLaws.{bind_some, cut-at, word_takes, word_again, name_takes, name_again, name_free}
+use Rattle.line_words.proofs.LineLaws.{line-behind, line_is, IsWord, word_is, name_ends}
+use Rattle.design_text.proofs.WordLaws.{number_takes, number_again, number_free}
 
 -- ---- the lines
 
-name_ends : (name : List ℕ) → IsTrue (is_name name) → IsFree 10 name
-name_ends name is = name_free 10 name refl is
-
 number_ends : (n : ℕ) → n ≤ MAX_NUMBER → IsFree 10 (decimal n)
 number_ends n small = number_free 10 n refl small
-
--- a word that has no space and no line feed
-pub record IsWord (word : List ℕ) : Type 0 where
-  pub space : IsFree 32 word
-  pub end : IsFree 10 word
-
-pub word_is : (word : List ℕ) → list_all is_name_byte word ≡ true → IsWord word
-word_is word of_name = record { space = free_of_kind 32 is_name_byte word refl of_name; end = free_of_kind 10 is_name_byte word refl of_name }
 
 pub name_reader : (word : List ℕ) → IsWord word → IsReaderOf (λ name. IsTrue (is_name name)) (λ name. line word (name ∷ [])) (name_at word)
 unfolding name_at

@@ -4,8 +4,9 @@ use Rattle.duct_units.specs.Rules.{line_fault}
 use Rattle.duct_units.specs.declared.fault.Fault.{Fault}
 use Rattle.duct_units.specs.declared.fault.Reason.TheVariants.{Form}
 use Rattle.design_text.specs.Texts.{Begins, IsFirstBad}
-use Rattle.design_text.specs.Reading.{◌>>=◌, at_line}
-use Rattle.design_text.proofs.LineLaws.{IsLine, IsReaderOf}
+use Rattle.duct_units.specs.Results.{◌>>=◌}
+use Rattle.design_text.specs.Reading.{at_line}
+use Rattle.line_words.specs.Readers.{IsLine, IsReaderOf}
 use Rattle.design_text.proofs.BadLines.{Texts, After, begins_none, bad_here, good_later, bad_later}
 
 -- the fault is that of the first bad line of the bytes, of which the first is line k of the file

@@ -5,7 +5,7 @@ use Rattle.duct_units.specs.Rules.{line_fault}
 use Rattle.duct_units.specs.declared.fault.Fault.{Fault}
 use Rattle.duct_units.specs.declared.fault.Reason.TheVariants.{Form}
 use Rattle.design_text.specs.Texts.{first_lines, Begins}
-use Rattle.design_text.proofs.LineLaws.{IsReaderOf}
+use Rattle.line_words.specs.Readers.{IsReaderOf}
 use Rattle.design_text.proofs.BadLines.{Texts, After, begins_none, bad_here, bad_later, front_kept}
 use Rattle.design_text.proofs.Readers.{Refuses, IsReader, found_or_none, same_Err, ok_err, before_later, here_refused}
 

@@ -12,10 +12,14 @@ use Rattle.duct_definitions.specs.declared.listed.Listed.{Listed}
 use Rattle.duct_definitions.specs.declared.listed.ListedSection.{ListedSection}
 use Rattle.design_text.specs.declared.words.TheConstants.{MAX_NUMBER}
 use Rattle.design_text.specs.Texts.{Begins}
-use Rattle.design_text.specs.Fields.{after_word, number_at, numbers_at, section_at}
-use Rattle.design_text.specs.Reading.{◌>>=◌, at_line, cost_at, ended_at, end_at}
-use Rattle.design_text.proofs.WordLaws.{word_takes, word_again}
-use Rattle.design_text.proofs.LineLaws.{IsReaderOf, word_is, number_reader, numbers_reader, cost_is_no_section}
+use Rattle.line_words.specs.Words.{after_word}
+use Rattle.line_words.specs.Readers.{IsReaderOf}
+use Rattle.design_text.specs.Fields.{number_at, numbers_at, section_at}
+use Rattle.duct_units.specs.Results.{◌>>=◌}
+use Rattle.design_text.specs.Reading.{at_line, cost_at, ended_at, end_at}
+use Rattle.line_words.proofs.WordLaws.{word_takes, word_again}
+use Rattle.line_words.proofs.LineLaws.{word_is}
+use Rattle.design_text.proofs.LineLaws.{number_reader, numbers_reader, cost_is_no_section}
 use Rattle.design_text.proofs.BadLines.{Texts, After, begins_none, first_of}
 use Rattle.design_text.proofs.Readers.{Refuses, IsReader, reader_same, at_once, line_then, then_read, ok_err, same_Err}
 use Rattle.design_text.proofs.SectionRuns.{More, IsTail, run_from, run_read}

@@ -10,8 +10,10 @@ use Rattle.duct_definitions.specs.declared.listed.ListedSection.{ListedSection}
 use Rattle.duct_definitions.specs.DesignText.{fan_line}
 use Rattle.design_text.specs.Texts.{IsListedFan}
 use Rattle.design_text.specs.Fields.{name_at, form_at, fan_at}
-use Rattle.design_text.specs.Reading.{◌>>=◌, at_line, with_back, back_at, reading}
-use Rattle.design_text.proofs.LineLaws.{word_is, name_reader, form_reader, fan_reader}
+use Rattle.duct_units.specs.Results.{◌>>=◌}
+use Rattle.design_text.specs.Reading.{at_line, with_back, back_at, reading}
+use Rattle.line_words.proofs.LineLaws.{word_is}
+use Rattle.design_text.proofs.LineLaws.{name_reader, form_reader, fan_reader}
 use Rattle.design_text.proofs.BadLines.{After}
 use Rattle.design_text.proofs.Readers.{IsReader, reader_same, line_then, then_read}
 use Rattle.design_text.proofs.TextReading.{SupplyOf, supply_at, supply_read}

@@ -1,37 +1,16 @@
 -- What the first line of some bytes says, with the bytes behind it, where the line is of its form.
---   name_before c, ..      what the bytes before the first byte c spell
+--   number_before c bytes  the number of at most 18 digits before the first byte c
 --   fan_at word, ..        what a line that begins with the word says
-use Rattle.std.specs.Prelude.{ℕ, zero, suc, ◌&&◌, nat_le, if◌then◌else◌, List, [], ◌∷◌, codes, pos, unsigned_abs, Option, Some, None}
-use Rattle.std.specs.Str.{bytes_eq}
+use Rattle.std.specs.Prelude.{ℕ, zero, suc, ◌&&◌, nat_le, if◌then◌else◌, List, [], ◌∷◌, codes, Option, Some, None}
 use Rattle.duct_units.specs.Options.{◌>>=◌}
-use Rattle.duct_units.specs.Name.{name_of}
-use Rattle.duct_units.specs.Whole.{whole_of}
+use Rattle.line_words.specs.Words.{after_word, name_before, number_before as number_of_most}
 use Rattle.duct_definitions.specs.declared.listed.ListedFan.{ListedFan}
 use Rattle.duct_definitions.specs.declared.listed.ListedSection.{ListedSection}
-use Rattle.design_text.specs.Texts.{cut}
 use Rattle.design_text.specs.declared.words.TheConstants.{MAX_NUMBER}
-
--- ---- words
-
--- the bytes behind this word and the byte c
-abbrev pub after_word : List ℕ → ℕ → List ℕ → Option (List ℕ)
-after_word word c bytes = do
-  found ← cut c bytes
-  if bytes_eq found.0 word then Some found.1 else None
-
--- the name before the first byte c
-abbrev pub name_before : ℕ → List ℕ → Option (List ℕ × List ℕ)
-name_before c bytes = do
-  found ← cut c bytes
-  name ← name_of found.0
-  Some (name, found.1)
 
 -- the number of at most 18 digits before the first byte c
 abbrev pub number_before : ℕ → List ℕ → Option (ℕ × List ℕ)
-number_before c bytes = do
-  found ← cut c bytes
-  number ← whole_of found.0 (pos 0) (pos MAX_NUMBER)
-  Some (unsigned_abs number, found.1)
+number_before c bytes = number_of_most MAX_NUMBER c bytes
 
 -- ---- lines
 

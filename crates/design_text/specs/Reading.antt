@@ -4,19 +4,15 @@
 --   end_at n l bytes      the fields l, where line n is the last
 --   reading bytes         the fields that the bytes spell
 use Rattle.std.specs.Prelude.{ℕ, ◌+◌, ◌==◌, if◌then◌else◌, List, length, codes, Option, Some, None, Result, Ok, Err}
+use Rattle.duct_units.specs.Results.{◌>>=◌}
 use Rattle.duct_units.specs.Rules.{line_fault}
 use Rattle.duct_units.specs.declared.fault.Fault.{Fault}
 use Rattle.duct_units.specs.declared.fault.Reason.TheVariants.{Form}
 use Rattle.duct_definitions.specs.declared.limits.TheConstants.{MAX_SECTIONS}
 use Rattle.duct_definitions.specs.declared.listed.Listed.{Listed}
 use Rattle.duct_definitions.specs.declared.listed.ListedFan.{ListedFan}
-use Rattle.design_text.specs.Fields.{after_word, name_at, number_at, numbers_at, form_at, fan_at, sections_at}
-
-infixl 10 ◌>>=◌
--- what follows from the value, or the fault
-abbrev pub ◌>>=◌ : {A B : Type 0} → Result A Fault → (A → Result B Fault) → Result B Fault
-(Ok x) >>= f = f x
-(Err e) >>= f = Err e
+use Rattle.line_words.specs.Words.{after_word}
+use Rattle.design_text.specs.Fields.{name_at, number_at, numbers_at, form_at, fan_at, sections_at}
 
 -- what was found on line n, or the fault of the line
 abbrev pub at_line : {A : Type 0} → ℕ → Option A → Result A Fault

@@ -3,8 +3,8 @@
 --   first_lines n bytes      the first n lines, each with its line feed, where there are so many
 --   Begins Is n bytes        a text of this kind begins with the first n lines of the bytes
 --   IsFirstBad Is n bytes    line n is the first with which no text of this kind begins
-use Rattle.std.specs.Prelude.{◌≡◌, ℕ, zero, suc, ◌+◌, ◌<◌, ◌≤◌, ◌==◌, List, [], ◌∷◌, ◌++◌, length, take, drop, Option, Some, IsTrue, IfSome}
-use Rattle.std.specs.List.{position_from, AllByRecursion}
+use Rattle.std.specs.Prelude.{◌≡◌, ℕ, zero, suc, ◌<◌, ◌≤◌, List, [], ◌∷◌, ◌++◌, length, Option, Some, IsTrue, IfSome}
+use Rattle.std.specs.List.{AllByRecursion}
 use Rattle.duct_units.specs.Options.{◌>>=◌}
 use Rattle.duct_units.specs.Name.{is_name}
 use Rattle.duct_units.specs.Rules.{line_fault}
@@ -12,6 +12,7 @@ use Rattle.duct_units.specs.declared.fault.Fault.{Fault}
 use Rattle.duct_units.specs.declared.fault.Reason.TheVariants.{Form}
 use Rattle.duct_units.specs.declared.fault.ReadError.{ReadError}
 use Rattle.duct_units.specs.declared.fault.ReadError.TheVariants.{Refused, NoMemory}
+use Rattle.line_words.specs.Words.{cut}
 use Rattle.duct_definitions.specs.declared.limits.TheConstants.{MAX_SECTIONS}
 use Rattle.duct_definitions.specs.declared.listed.Listed.{Listed}
 use Rattle.duct_definitions.specs.declared.listed.ListedFan.{ListedFan}
@@ -55,10 +56,6 @@ pub record IsTextOf (l : Listed) (bytes : List ℕ) : Type 0 where
 -- the bytes are a design text
 abbrev pub IsDesignText : List ℕ → Type 0
 IsDesignText bytes = (l : Listed) × IsTextOf l bytes
-
--- the bytes before the first byte c and those behind it, where it is there
-abbrev pub cut : ℕ → List ℕ → Option (List ℕ × List ℕ)
-cut c bytes = position_from (λ b. b == c) 0 bytes >>= λ at. Some (take at bytes, drop (at + 1) bytes)
 
 -- the first n lines, each with its line feed, where there are so many
 unfoldable pub first_lines : ℕ → List ℕ → Option (List ℕ)

@@ -2,9 +2,10 @@
 ghost use Rattle.std.specs.Prelude.{◌≡◌, ◌≤◌, option_map, IfSome};
 ghost use Rattle.design_text.specs.Fields.{name_at, number_at, numbers_at, form_at, fan_at, section_at};
 
-use crate::words::{after_word, cut, number_before};
+use crate::words::number_before;
 use duct_definitions::{ListedFan, ListedSection};
 use duct_units::Name;
+use line_words::{after_word, cut};
 
 /// The form of a text: 1 with one fan, 2 with a return fan.
 #[tactic(auto, unfolding(crate::specs::Fields::form_at))]

@@ -9,9 +9,9 @@ ghost use Rattle.design_text.specs.Fields.{sections_at};
 ghost use Rattle.design_text.specs.Reading.{reading, cost_at, back_at, end_at};
 
 use crate::fields::{fan_at, form_at, name_at, number_at, numbers_at, section_at};
-use crate::words::after_word;
 use duct_definitions::{Listed, ListedFan, ListedSection, MAX_SECTIONS};
 use duct_units::{Fault, List, NoMemory, ReadError, Reason};
+use line_words::after_word;
 use std::alloc::Global;
 
 /// The fields of a design text; bytes that are none are refused at the first line with which no design text begins.

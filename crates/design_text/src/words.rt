@@ -1,43 +1,15 @@
-//! Words at the front of some bytes. What is found comes with the bytes behind it.
-ghost use Rattle.std.specs.Prelude.{◌≡◌, ◌==◌, ◌<◌, length, option_map, IfSome};
-ghost use Rattle.std.specs.List.{position_from};
-ghost use Rattle.design_text.specs.Texts.{cut};
-ghost use Rattle.design_text.specs.Fields.{after_word, number_before};
+//! The numbers of a design text.
+ghost use Rattle.std.specs.Prelude.{◌≡◌, option_map};
+ghost use Rattle.design_text.specs.Fields.{number_before};
 
-use duct_units::whole;
+use line_words::number_before as number_of_most;
 
 /// The greatest number of a design text, which has 18 digits.
 pub const MAX_NUMBER: u64 = 999_999_999_999_999_999;
-
-/// The bytes before the first byte `end`, and those behind it.
-pub(crate) fn cut(bytes: &[u8], end: u8) -> Option<(&[u8], &[u8])>
-    ensures { option_map (λ found. (found.0.now, found.1.now)) result ≡ cut end bytes.now }
-{
-    let at = place_of(bytes, end)?;
-    Some((&bytes[..at], &bytes[at + 1..]))
-}
-
-/// The place of the first byte `end`.
-fn place_of(bytes: &[u8], end: u8) -> Option<usize>
-    ensures value { result ≡ position_from (λ byte. byte == end) 0 bytes.now }
-    ensures within { IfSome result (λ at. at < length bytes.now) }
-{
-    bytes.iter().position(|byte| *byte == end)
-}
-
-/// The bytes behind this word and the byte `end`.
-pub(crate) fn after_word<'a>(bytes: &'a [u8], word: &[u8], end: u8) -> Option<&'a [u8]>
-    ensures { option_map (λ rest. rest.now) result ≡ after_word word.now end bytes.now }
-{
-    let (found, rest) = cut(bytes, end)?;
-    if found == word { Some(rest) } else { None }
-}
 
 /// The number of at most 18 digits before the first byte `end`.
 pub(crate) fn number_before(bytes: &[u8], end: u8) -> Option<(u64, &[u8])>
     ensures { option_map (λ found. (found.0, found.1.now)) result ≡ number_before end bytes.now }
 {
-    let (found, rest) = cut(bytes, end)?;
-    let number = whole(found, 0, MAX_NUMBER as i64)?;
-    Some((number.unsigned_abs(), rest))
+    number_of_most(bytes, end, MAX_NUMBER)
 }
