@@ -1,1 +1,2 @@
 pub mod NetworkFields
+pub mod Parts

@@ -11,4 +11,4 @@ mod network;
 
 pub use designs::{cost, loss_at, meets, path_loss, price_at, worst};
 pub use duct_definitions::{Design, NetFan, Pair};
-pub use network::Network;
+pub use network::{Network, NetworkParts, greatest_pressure};

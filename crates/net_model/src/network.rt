@@ -20,6 +20,25 @@ pub struct Network {
     return_fans: List<NetFan>,
 }
 
+/// All that a network holds, apart.
+#[derive(Drop)]
+pub struct NetworkParts {
+    /// The name of the project.
+    pub name: Name,
+    /// The tree of its sections.
+    pub tree: AirTree,
+    /// The name of each section.
+    pub names: List<Name>,
+    /// The names of the sizes of each section.
+    pub sizes: List<List<Name>>,
+    /// The pairs of each section, by its own size and then by its neighbour's.
+    pub pairs: List<List<Option<Pair>>>,
+    /// The fans on offer.
+    pub fans: List<NetFan>,
+    /// The return fans on offer.
+    pub return_fans: List<NetFan>,
+}
+
 impl Model for Network {
     ghost use Rattle.duct_definitions.specs.Network.{Network as NetworkData};
 
@@ -34,6 +53,8 @@ impl Model for Network {
 }
 
 impl Network {
+    ghost use Rattle.net_model.specs.Parts.{parts_of};
+
     /// The network of a tree, with one entry for each section in each list, and without return fans. The pairs of a
     /// section stand by its own size and then by its neighbour's.
     pub fn new(
@@ -83,6 +104,31 @@ impl Network {
     {
         self.return_fans = fans;
         self
+    }
+
+    /// Its parts, which are moved and not copied, so that another network may be made of them.
+    pub fn into_parts(self) -> NetworkParts
+        ensures parts { result ≡ parts_of self }
+        ensures network { IsNetwork self }
+    {
+        let Network {
+            name,
+            tree,
+            names,
+            sizes,
+            pairs,
+            fans,
+            return_fans,
+        } = self;
+        NetworkParts {
+            name,
+            tree,
+            names,
+            sizes,
+            pairs,
+            fans,
+            return_fans,
+        }
     }
 
     /// The name of the project.
@@ -193,7 +239,7 @@ impl Network {
 }
 
 /// The greatest pressure of these fans, dPa; 0 without fans.
-fn greatest_pressure(fans: &[NetFan]) -> u64
+pub fn greatest_pressure(fans: &[NetFan]) -> u64
     ensures { result ≡ greatest_pressure fans.now }
 {
     let mut most = 0;
