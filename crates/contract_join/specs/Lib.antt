@@ -1,3 +1,5 @@
 pub mod SectionFronts
+pub mod Kept
+pub mod SideFront
 pub mod Join
 pub mod Outcomes

@@ -6,12 +6,15 @@
 
 mod close;
 mod join;
+mod kept;
+pub mod laws;
 mod only_child;
 mod outcome;
 mod section_fronts;
 mod side;
 
 pub use join::Join;
+pub use kept::{Kept, adopt};
 pub use only_child::beyond_one;
 pub use outcome::Outcome;
 pub use section_fronts::SectionFronts;

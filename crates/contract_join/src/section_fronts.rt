@@ -4,8 +4,10 @@ ghost use Rattle.duct_definitions.specs.Network.{IsNetwork, columns, cap};
 ghost use Rattle.least_laws.specs.Least.{IsLeast};
 ghost use Rattle.pareto_front.specs.Front.{NeedsWithin, CostsWithin, cheapest};
 ghost use Rattle.contract_join.specs.SectionFronts.{AreExact, front_of, most_beyond};
+ghost use Rattle.contract_join.specs.Kept.{IsKeptOf};
 ghost use Rattle.pareto_front.specs.declared.point.TheConstants.{COST_LIMIT};
 
+use crate::kept::Kept;
 use duct_units::List;
 use net_model::Network;
 use net_model::laws::network_is_valid;
@@ -90,5 +92,18 @@ impl<'n> SectionFronts<'n> {
         ensures costs { CostsWithin (most_beyond self.now.net) result.now }
     {
         &self.fronts.as_slice()[g as usize]
+    }
+    /// The section and its fronts, which let go of their network. They may be adopted into it again.
+    pub fn release(self) -> Kept
+        ensures section { result.section ≡ self.entry.section }
+        ensures fronts { result.fronts ≡ self.entry.fronts }
+        ensures kept { IsKeptOf self.entry.net result }
+    {
+        let SectionFronts {
+            net: _,
+            section,
+            fronts,
+        } = self;
+        Kept { section, fronts }
     }
 }

@@ -1,13 +1,10 @@
 //! The front of a whole side of the fan.
-ghost use Rattle.std.specs.Prelude.{◌≡◌, ℕ, ◌*◌, ◌<◌, ◌≤◌, ◌^◌, All, IfOk, None, length};
+ghost use Rattle.std.specs.Prelude.{◌≡◌, ◌<◌, ◌≤◌, All, IfOk, None, length};
 ghost use Rattle.duct_definitions.specs.declared.limits.TheConstants.{MAX_SECTIONS};
-ghost use Rattle.duct_definitions.specs.Tree.{section_count, neighbour, roots};
-ghost use Rattle.duct_definitions.specs.Network.{cap};
-ghost use Rattle.least_laws.specs.Choosing.{side_least};
-ghost use Rattle.pareto_front.specs.Front.{NeedsWithin, CostsWithin, cheapest};
-ghost use Rattle.contract_join.specs.SectionFronts.{AreFrontsOf, most_beyond};
+ghost use Rattle.duct_definitions.specs.Tree.{section_count, neighbour};
+ghost use Rattle.contract_join.specs.SectionFronts.{AreFrontsOf};
+ghost use Rattle.contract_join.specs.SideFront.{IsSideFront};
 ghost use Rattle.contract_join.specs.Join.{AreSumOf, AddsSection, HasRoom};
-ghost use Rattle.pareto_front.specs.declared.point.TheConstants.{COST_LIMIT};
 
 use crate::section_fronts::SectionFronts;
 use duct_units::{NoMemory, Side};
@@ -25,12 +22,7 @@ pub fn side_of(
     side: Side,
 ) -> Result<Front, NoMemory>
     requires { AreFrontsOf net.now fronts.now }
-    ensures value { IfOk result (λ front. (budget : ℕ) → budget ≤ cap net.now →
-        cheapest front budget ≡ side_least net.now side budget) }
-    ensures needs { IfOk result (NeedsWithin (cap net.now)) }
-    ensures costs { IfOk result
-        (CostsWithin (length (roots net.now.tree side) * most_beyond net.now)) }
-    ensures below { IfOk result (All (λ point. point.cost < COST_LIMIT)) }
+    ensures { IfOk result (IsSideFront net.now side) }
 {
     let sum = sum_of_roots(alloc, net, fronts, net.tree().roots(side))?;
     sum.total(alloc)

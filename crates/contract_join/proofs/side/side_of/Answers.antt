@@ -1,13 +1,9 @@
-use Rattle.std.proofs.Common.{◌≡◌, ℕ, ◌*◌, ◌<◌, ◌≤◌, sym, subst, List, None, length}
+use Rattle.std.proofs.Common.{◌≡◌, ℕ, ◌<◌, sym, subst, List, None}
 use Rattle.std.specs.Prelude.{All, IfOk}
 use Rattle.std.proofs.lemmas.Result.{IfOk-weaker}
-use Rattle.pareto_front.specs.declared.point.TheConstants.{COST_LIMIT}
-use Rattle.pareto_front.specs.Front.{NeedsWithin, CostsWithin, cheapest}
 use Rattle.duct_definitions.specs.Tree.{Tree, section_count, neighbour, roots}
-use Rattle.duct_definitions.specs.Network.{cap}
-use Rattle.least_laws.specs.Choosing.{side_least}
 use Rattle.pareto_front.specs.FrontSum.{IsTotal}
-use Rattle.contract_join.specs.SectionFronts.{most_beyond}
+use Rattle.contract_join.specs.SideFront.{IsSideFront}
 use Rattle.contract_join.proofs.Adding.{IsSumOf}
 use Rattle.contract_join.proofs.Sides.{roots-at_fan, roots-are, roots_fit, roots-total, side-below}
 use Rattle.contract_join.proofs.side.side_of.Goals as goal
@@ -35,25 +31,12 @@ total_is c =
     c.in_ok-sum.sum c.in_ok-sum.ensures)
     c.total.ensures
 
-pub returns-clause-value : goal.returns-clause-value
-returns-clause-value c =
-    IfOk-weaker c.total.result (IsSumOf c.args.net.now 0 (roots c.args.net.now.tree c.args.side))
-    (λ front. (budget : ℕ) → budget ≤ cap c.args.net.now → cheapest front budget ≡ side_least c.args.net.now c.args.side budget)
-    (λ front is. is.value) (total_is c)
-
-pub returns-clause-needs : goal.returns-clause-needs
-returns-clause-needs c =
-    IfOk-weaker c.total.result (IsSumOf c.args.net.now 0 (roots c.args.net.now.tree c.args.side)) (NeedsWithin (cap c.args.net.now))
-    (λ front is. is.needs) (total_is c)
-
-pub returns-clause-costs : goal.returns-clause-costs
-returns-clause-costs c =
-    IfOk-weaker c.total.result (IsSumOf c.args.net.now 0 (roots c.args.net.now.tree c.args.side))
-    (CostsWithin (length (roots c.args.net.now.tree c.args.side) * most_beyond c.args.net.now))
-    (λ front is. is.costs) (total_is c)
-
-pub returns-clause-below : goal.returns-clause-below
-returns-clause-below c =
-    IfOk-weaker c.total.result (CostsWithin (length (roots c.args.net.now.tree c.args.side) * most_beyond c.args.net.now))
-    (λ front. All (λ point. point.cost < COST_LIMIT) front)
-    (λ front low. side-below c.args.net.now c.tree.ensures.network c.args.side front low) (returns-clause-costs c)
+pub returns : goal.returns
+returns c =
+    let net = c.args.net.now in
+    IfOk-weaker c.total.result (IsSumOf net 0 (roots net.tree c.args.side)) (IsSideFront net c.args.side)
+    (λ front is. record {
+      exact = is.value;
+      needs = is.needs;
+      below = side-below net c.tree.ensures.network c.args.side front is.costs;
+    }) (total_is c)
