@@ -8,6 +8,8 @@ use Rattle.std.proofs.lemmas.Bool.{or_left, or_right}
 use Rattle.std.proofs.lemmas.Bool.Decides.{eqb_tells}
 use Rattle.std.specs.Prelude.{All, ◌==◌}
 use Rattle.std.specs.List.{sum_by}
+use Rattle.std.specs.List.Sorted.{IsPermutation}
+use Rattle.std.proofs.lemmas.List.Sorted.{sum_by-IsPermutation}
 use mathlib.Core.Option.{some}
 use lib.ListN.{get_elem?}
 use Rattle.duct_definitions.specs.Tree.{Tree, is_leaf, all_leaves, sections, section_count}
@@ -142,11 +144,11 @@ written len new old count same =
     ∙ take_all len new (omega arith)
 
 -- the hands of the crew hold the leaves
-pub crew-shares : (crew : List Worker) (hands : List HandView) (leaves : List ℕ) (t : Tree) → map (λ (w : Worker). w.hand) crew ≡ hands
-    → leaves ≡ all_leaves t → ((s : ℕ) → sum_by (λ (h : HandView). times s h.fixed.share) hands ≡ times s leaves)
+pub crew-shares : (crew : List Worker) (hands : List HandView) (tasks : List ℕ) (t : Tree) → map (λ (w : Worker). w.hand) crew ≡ hands
+    → IsPermutation (all_leaves t) tasks → ((s : ℕ) → sum_by (λ (h : HandView). times s h.fixed.share) hands ≡ times s tasks)
     → (s : ℕ) → sum_by (λ (w : Worker). times s w.hand.fixed.share) crew ≡ times s (all_leaves t)
-crew-shares crew hands leaves t is all once_each s =
+crew-shares crew hands tasks t is all once_each s =
     sym (sum-map (λ (h : HandView). times s h.fixed.share) (λ (w : Worker). w.hand) crew)
     ∙ ap (sum_by (λ (h : HandView). times s h.fixed.share)) is
     ∙ once_each s
-    ∙ ap (times s) all
+    ∙ sum_by-IsPermutation (λ x. once (x == s)) (all_leaves t) tasks all

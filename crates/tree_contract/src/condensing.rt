@@ -6,6 +6,7 @@ ghost use Rattle.tree_contract.specs.Crews.{IsReady, HasWorked};
 
 use crate::climbing::Site;
 use crate::crew::all_at_once;
+use crate::dealing::deepest_first;
 use crate::worker::Worker;
 use child_counter::{Closed, Counters, Pass};
 use duct_ports::Gate;
@@ -28,7 +29,8 @@ pub(crate) fn condense_all<'n, R: Threads + Sync, G: Gate>(
     ensures workers { IfOk result (λ closed. length closed.finished ≡ workers) }
 {
     let (counters, passes) = Counters::start(alloc, net, workers)?;
-    let hands = deal(alloc, net.tree().leaves(), workers)?;
+    let leaves = deepest_first(alloc, net)?;
+    let hands = deal(alloc, leaves.as_slice(), workers)?;
     let mut crew = crew_of(alloc, hands, passes)?;
     let room = Vec::with_capacity(alloc, workers as usize)?;
     work_all(rt, alloc, net, &counters, gate, crew.as_mut_slice());

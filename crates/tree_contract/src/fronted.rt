@@ -3,11 +3,11 @@ ghost use Rattle.std.specs.Prelude.{◌≡◌, ◌<◌, [], IfOk, Some, length, 
 ghost use Rattle.duct_definitions.specs.Tree.{section_count};
 ghost use Rattle.contract_join.specs.SectionFronts.{AreFrontsOf};
 ghost use Rattle.child_counter.specs.Closed.{AreWhole};
-ghost use Rattle.tree_contract.specs.Fronts.{IsSideFront};
+ghost use Rattle.contract_join.specs.SideFront.{IsSideFront};
 
 use child_counter::Closed;
 use contract_join::{SectionFronts, side_of};
-use duct_units::{NoMemory, Side};
+use duct_units::{List, NoMemory, Side};
 use net_model::Network;
 use pareto_front::Front;
 use std::alloc::Global;
@@ -81,6 +81,20 @@ impl<'n> Fronted<'n> {
         ensures all { AreFrontsOf self.now.net result.now }
     {
         self.closed.fronts()
+    }
+
+    /// The exact fronts of each section, in section order, without those of the sides.
+    pub fn scatter(self) -> List<SectionFronts<'n>>
+        ensures value { result ≡ self.entry.closed.fronts }
+        ensures all { AreFrontsOf self.entry.net result }
+    {
+        let Fronted {
+            net: _,
+            closed,
+            supply: _,
+            back: _,
+        } = self;
+        closed.into_fronts()
     }
 
     /// What each budget buys at the least cost for a side. A side without sections needs nothing and costs nothing.

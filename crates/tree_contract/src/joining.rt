@@ -2,7 +2,7 @@
 ghost use Rattle.std.specs.Prelude.{◌≡◌, ◌<◌, ◌+◌, IfSome, IsTrue, length, slice_index};
 ghost use Rattle.duct_definitions.specs.Tree.{section_count, children};
 ghost use Rattle.contract_join.specs.Outcomes.{IsOutcomeOf};
-ghost use Rattle.tree_contract.specs.Turns.{HasTurn, SameNotes};
+ghost use Rattle.tree_contract.specs.Turns.{HasTurn, KeepsTurn};
 
 use child_counter::{Counters, Pass, Turn};
 use contract_join::{Join, Outcome, SectionFronts, beyond_one};
@@ -10,7 +10,7 @@ use net_model::Network;
 use std::alloc::Global;
 
 /// What condensing the turn's section comes to. It finds no memory where a child has no fronts.
-pub(crate) fn outcome_of<'n>(
+pub fn outcome_of<'n>(
     alloc: Global,
     counters: &Counters<'n>,
     net: &'n Network,
@@ -20,9 +20,7 @@ pub(crate) fn outcome_of<'n>(
     requires network { counters.now.net ≡ net.now }
     requires turn { HasTurn counters.now turn.old pass.old }
     ensures fits { IsOutcomeOf net.now turn.old result }
-    ensures turn { HasTurn counters.now turn.new pass.new }
-    ensures same { turn.new ≡ turn.old }
-    ensures notes { SameNotes pass.old pass.new }
+    ensures turn { KeepsTurn counters.now turn.old pass.old turn.new pass.new }
 {
     let s = turn.section();
     match fronts_of(alloc, counters, net, pass, turn) {
@@ -44,9 +42,7 @@ fn fronts_of<'n>(
     requires turn { HasTurn counters.now turn.old pass.old }
     ensures network { IfSome result (λ fronts. fronts.net ≡ net.now) }
     ensures section { IfSome result (λ fronts. fronts.section ≡ turn.old) }
-    ensures turn { HasTurn counters.now turn.new pass.new }
-    ensures same { turn.new ≡ turn.old }
-    ensures notes { SameNotes pass.old pass.new }
+    ensures turn { KeepsTurn counters.now turn.old pass.old turn.new pass.new }
 {
     if net.tree().children(turn.section()).len() == 1 {
         return from_only_child(alloc, counters, net, pass, turn);
@@ -70,9 +66,7 @@ fn from_only_child<'n>(
     requires only { length (children net.now.tree turn.old) ≡ 1 }
     ensures network { IfSome result (λ fronts. fronts.net ≡ net.now) }
     ensures section { IfSome result (λ fronts. fronts.section ≡ turn.old) }
-    ensures turn { HasTurn counters.now turn.new pass.new }
-    ensures same { turn.new ≡ turn.old }
-    ensures notes { SameNotes pass.old pass.new }
+    ensures turn { KeepsTurn counters.now turn.old pass.old turn.new pass.new }
 {
     let s = turn.section();
     let child = counters.take_child(pass, turn, 0);
@@ -115,9 +109,7 @@ fn joined<'n>(
       section = turn.old;
       added = length (children net.now.tree turn.old);
     }) }
-    ensures turn { HasTurn counters.now turn.new pass.new }
-    ensures same { turn.new ≡ turn.old }
-    ensures notes { SameNotes pass.old pass.new }
+    ensures turn { KeepsTurn counters.now turn.old pass.old turn.new pass.new }
 {
     let s = turn.section();
     let Ok(mut join) = Join::start(alloc, net, s) else {

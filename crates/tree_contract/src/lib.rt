@@ -8,10 +8,13 @@ mod climbing;
 mod condensing;
 mod contracting;
 mod crew;
+mod dealing;
 mod door;
 mod fronted;
 mod joining;
 mod worker;
 
+pub use contract_join::side_of;
 pub use contracting::contract_all;
 pub use fronted::Fronted;
+pub use joining::outcome_of;

@@ -1,6 +1,7 @@
 use Rattle.std.proofs.Common.{◌≡◌, map, length, ap, sym, ◌∙◌, arith, subst}
 use Rattle.std.proofs.lemmas.List.{length-map}
 use Rattle.std.specs.Prelude.{All}
+use Rattle.std.specs.List.Sorted.{IsPermutation}
 use Rattle.duct_definitions.specs.Network.{Network}
 use Rattle.duct_definitions.specs.Tree.{all_leaves}
 use Rattle.child_counter.specs.Public.{AreBack, IsNew}
@@ -14,7 +15,7 @@ pub work_all-requires-clause-ready : goal.work_all-requires-clause-ready
 work_all-requires-clause-ready g c κs within =
     let which = c.in_ok-counters.counters in
     let crew = c.in_ok-crew.crew.items in
-    let tasks = c.leaves.result.now in
+    let tasks = c.as_slice.result.now in
     subst (All (λ (w : Worker). IsReady which w.hand w.pass)) (sym c.as_mut_slice.ensures.value)
     (ready which tasks c.args.workers crew
     (subst (IsDealt tasks c.args.workers) (sym c.in_ok-crew.ensures.hands) c.in_ok-hands.ensures.dealt)
@@ -29,9 +30,11 @@ close-requires g c =
     let value = c.as_mut_slice.ensures.value in
     let same : length now ≡ length vec.items = (let a = c.work_all.ensures.count in let b = ap length value in omega arith) in
     let back = written vec.len now vec.items (let a = vec.ok.0 in omega arith) same in
-    let leaves : c.leaves.result.now ≡ all_leaves which.net.tree =
-    c.leaves.ensures.value ∙ ap all_leaves c.tree.ensures.tree
-    ∙ ap (λ (n : Network). all_leaves n.tree) (sym c.in_ok-counters.ensures.network) in
+    let tasks = c.as_slice.result.now in
+    let all : IsPermutation (all_leaves which.net.tree) tasks =
+    subst (IsPermutation (all_leaves which.net.tree)) (sym c.as_slice.ensures.value)
+    (subst (λ (n : Network). IsPermutation (all_leaves n.tree) c.in_ok-leaves.leaves.items) (sym c.in_ok-counters.ensures.network)
+    c.in_ok-leaves.ensures.leaves) in
     let passes : length old ≡ which.passes = (
     let a = ap length value in
     let b = length-map vec.items (λ (w : Worker). w.pass) in
@@ -39,7 +42,7 @@ close-requires g c =
     let e = c.in_ok-counters.ensures.count in
     let f = c.in_ok-counters.ensures.passes in
     omega arith) in
-    let shares = crew-shares old c.in_ok-hands.hands c.leaves.result.now which.net.tree
-    (ap (map (λ (w : Worker). w.hand)) value ∙ c.in_ok-crew.ensures.hands) leaves c.in_ok-hands.ensures.once in
+    let shares = crew-shares old c.in_ok-hands.hands tasks which.net.tree
+    (ap (map (λ (w : Worker). w.hand)) value ∙ c.in_ok-crew.ensures.hands) all c.in_ok-hands.ensures.once in
     subst (AreBack which) (sym (c.passes_of-passes.ensures ∙ ap (map (λ (w : Worker). w.pass)) back))
     (backs which old now c.work_all.ensures.count passes c.work_all.ensures.worked shares)

@@ -8,7 +8,7 @@ pub loop-next-smaller : goal.loop-next-smaller
 loop-next-smaller g c =
     let site = c.args.self.now in
     let t = site.net.now.tree in
-    let turn_is = c.outcome_of-outcome.ensures.same in
+    let turn_is = c.outcome_of-outcome.ensures.turn.same in
     earlier t c.loop-next.turn c.in-Some.next c.network_is_valid.ensures.tree
     (subst (λ (n : Network). c.loop-next.turn < section_count n.tree) site.same_network c.loop-next.invariant.0.within)
     (ap (neighbour t) (sym turn_is)
