@@ -7,7 +7,7 @@ ghost use Rattle.duct_definitions.specs.Order.{NoneMeets};
 ghost use Rattle.pareto_front.specs.Front.{cheapest};
 ghost use Rattle.least_laws.specs.Choosing.{side_least};
 ghost use Rattle.fan_choice.specs.Choice.{IsChoiceOf, NoneIsPriced};
-ghost use Rattle.expand_sizes.specs.BestChoice.{IsBestChoice};
+ghost use Rattle.expand_sizes.specs.BestChoice.{IsBestChoice, NoneHasCost};
 
 use fan_choice::Choice;
 use least_laws::{choice_depends_on_budgets_up_to_cap, no_cost_no_design};
@@ -27,14 +27,16 @@ pub fn choice_of_side_fronts_is_best(net: &Network, supply: &Front, back: &Front
     choice_depends_on_budgets_up_to_cap();
 }
 
-/// Where nothing is priced with fronts that tell the least price of each side, no design meets the rules.
+/// Where nothing is priced with fronts that tell the least price of each side, no design meets the rules, and no fans have
+/// a cost by the least prices.
 pub fn nothing_priced_is_no_design(net: &Network, supply: &Front, back: &Front)
     requires supply { (budget : ℕ) → budget ≤ cap net.now →
         cheapest supply.now budget ≡ side_least net.now supply_side budget }
     requires back { (budget : ℕ) → budget ≤ cap net.now →
         cheapest back.now budget ≡ side_least net.now return_side budget }
     requires unpriced { NoneIsPriced net.now supply.now back.now }
-    ensures { NoneMeets net.now }
+    ensures design { NoneMeets net.now }
+    ensures cost { NoneHasCost net.now }
 {
     network_is_valid(net);
     choice_depends_on_budgets_up_to_cap();
