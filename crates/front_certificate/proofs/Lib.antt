@@ -11,3 +11,5 @@ pub mod WordReading
 pub mod PointReading
 pub mod LineReading
 pub mod ReadingSteps
+pub mod OneReading
+pub mod OneJudgement

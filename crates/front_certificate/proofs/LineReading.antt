@@ -41,7 +41,7 @@ module _ (net : Network) (bytes : List ℕ) (n : ℕ) (rest : List ℕ) (read : 
     bad = λ mid at. none at.2.0 mid at.2.1 (sym (read.only at.0 at.1) ∙ at.2.2);
   }
 
-begins-before : (net : Network) (bytes : List ℕ) (n m : ℕ) (rest : List ℕ) → m ≤ n → Begins net bytes n rest
+pub begins-before : (net : Network) (bytes : List ℕ) (n m : ℕ) (rest : List ℕ) → m ≤ n → Begins net bytes n rest
     → (other : List ℕ) × Begins net bytes m other
 begins-before net bytes zero m rest less is =
     (rest, subst (λ k. Begins net bytes k rest) (let same : zero ≡ m = omega arith in same) is)
@@ -58,11 +58,11 @@ no-text net bytes n within bad is =
 
 -- ---- the total
 
-none-line : (rest : List ℕ) → total_line None ++ rest ≡ codes "cost " ++ (codes "none" ++ 10 ∷ rest)
+pub none-line : (rest : List ℕ) → total_line None ++ rest ≡ codes "cost " ++ (codes "none" ++ 10 ∷ rest)
 unfolding line
 none-line rest = refl
 
-some-line : (t : ℕ) (rest : List ℕ) → total_line (Some t) ++ rest ≡ codes "cost " ++ (decimal t ++ 10 ∷ rest)
+pub some-line : (t : ℕ) (rest : List ℕ) → total_line (Some t) ++ rest ≡ codes "cost " ++ (decimal t ++ 10 ∷ rest)
 unfolding line
 some-line t rest = ap (λ (l : List ℕ). codes "cost " ++ l) (append_assoc (decimal t) (10 ∷ []) rest)
 

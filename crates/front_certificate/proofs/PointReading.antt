@@ -37,7 +37,7 @@ line-is ps rest =
 
 -- ---- one point
 
-point-parts : (p : Point) (rest : List ℕ) → point_text p ++ rest ≡ 32 ∷ (decimal p.need ++ 32 ∷ (decimal p.cost ++ rest))
+pub point-parts : (p : Point) (rest : List ℕ) → point_text p ++ rest ≡ 32 ∷ (decimal p.need ++ 32 ∷ (decimal p.cost ++ rest))
 point-parts p rest = ap (λ (l : List ℕ). 32 ∷ l) (append_assoc (decimal p.need) (32 ∷ decimal p.cost) rest)
 
 -- what is read of a point, part by part
@@ -85,7 +85,7 @@ pub record IsSoFar (bytes : List ℕ) (points : List Point) (rest : List ℕ) : 
   pub goes_on : (ps : List Point) (more : List ℕ) → IsFrontAt bytes ps more
       → (later : List Point) × (ps ≡ points ++ later) × (rest ≡ points_text later ++ 10 ∷ more)
 
-cancel : (xs ys zs : List ℕ) → xs ++ ys ≡ xs ++ zs → ys ≡ zs
+pub cancel : (xs ys zs : List ℕ) → xs ++ ys ≡ xs ++ zs → ys ≡ zs
 cancel [] ys zs same = same
 cancel (x ∷ xs) ys zs same = cancel xs ys zs (cc same)
 
@@ -117,7 +117,7 @@ in_range-later : (ps : List Point) (q : Point) (later : List Point) → AllByRec
 in_range-later [] q later all = all.0
 in_range-later (p ∷ ps) q later all = in_range-later ps q later all.1
 
-points_text-ended : (ps : List Point) (more : List ℕ) → IsEnded (points_text ps ++ 10 ∷ more)
+pub points_text-ended : (ps : List Point) (more : List ℕ) → IsEnded (points_text ps ++ 10 ∷ more)
 points_text-ended [] more = refl
 points_text-ended (p ∷ ps) more = refl
 

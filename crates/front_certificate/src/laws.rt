@@ -7,8 +7,11 @@ ghost use Rattle.duct_definitions.specs.Network.{Network};
 ghost use Rattle.pareto_front.specs.declared.point.Point.{Point};
 ghost use Rattle.least_laws.specs.Choosing.{side_least, cost_at, IsOffered, IsChosen};
 ghost use Rattle.front_certificate.specs.Certificates.{Certificate};
-ghost use Rattle.front_certificate.specs.Reading.{Begins, IsTextOf, line_count};
-ghost use Rattle.front_certificate.specs.Sound.{IsSound, NoneCostsLess, AreExactFronts, AreSoundBefore, IsSoundTotal};
+ghost use Rattle.duct_units.specs.declared.fault.Fault.{Fault};
+ghost use Rattle.duct_units.specs.declared.fault.ReadError.TheVariants.{Refused};
+ghost use Rattle.front_certificate.specs.Reading.{Begins, IsRefusal, IsTextOf, line_count};
+ghost use Rattle.front_certificate.specs.Sound.{IsSound, IsJudgement, NoneCostsLess, AreExactFronts, AreSoundBefore, IsSoundTotal};
+ghost use Rattle.front_certificate.specs.declared.judgement.Judgement.{Judgement};
 
 /// Where a certificate is sound, no design that meets the rules costs less than its total; without a total none meets
 /// them.
@@ -36,4 +39,19 @@ pub fn exact_fronts_are_sound()
 pub fn text_of_a_certificate_has_its_lines()
     ensures { (net : Network) (bytes : List ℕ) (c : Certificate) → IsTextOf net bytes c
         → Begins net bytes (line_count net) [] }
+{}
+
+/// A certificate has one judgement.
+pub fn judgement_is_one()
+    ensures { (net : Network) (c : Certificate) (j k : Judgement) → IsJudgement net c j → IsJudgement net c k → j ≡ k }
+{}
+
+/// Bytes are the text of one certificate, or they are refused at one line.
+pub fn reading_is_one()
+    ensures text { (net : Network) (bytes : List ℕ) (c d : Certificate) → IsTextOf net bytes c → IsTextOf net bytes d
+        → c ≡ d }
+    ensures refusal { (net : Network) (bytes : List ℕ) (f g : Fault) → IsRefusal net bytes (Refused f)
+        → IsRefusal net bytes (Refused g) → f ≡ g }
+    ensures either { (net : Network) (bytes : List ℕ) (c : Certificate) (f : Fault) → IsTextOf net bytes c
+        → IsRefusal net bytes (Refused f) → ⊥ }
 {}
