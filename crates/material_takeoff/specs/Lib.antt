@@ -1,0 +1,4 @@
+pub mod Uses
+pub mod Counting
+pub mod Agreement
+pub mod TakeOffText
