@@ -1,0 +1,4 @@
+pub mod LineReader
+pub mod Texts
+pub mod LineCounts
+pub mod OneReading
