@@ -22,3 +22,8 @@ pub refused-here : {X Y : Type 0} (f : ℕ → List Rule) (s n : ℕ) (whole : O
 refused-here f s n whole (Refused fault) x value less rest fails =
     ap (λ o. unless_refused o value) (sym rest ∙ broken_here f s n fault less (refusal (first_broken (f s)) x fault fails))
 refused-here f s n whole NoMemory x value less rest fails = fails
+
+-- a refusal is the same, whatever the value would be
+pub refused-alike : {X Y : Type 0} (o : Option Fault) (error : ReadError) (x : X) (y : Y) → Fails error (unless_refused o x) → Fails error (unless_refused o y)
+refused-alike o (Refused fault) x y fails = ap (λ o. unless_refused o y) (refusal o x fault fails)
+refused-alike o NoMemory x y fails = fails

@@ -9,3 +9,4 @@ pub mod JoinLaws
 pub mod TogetherLaws
 pub mod NumberLaws
 pub mod NetworkLaws
+pub mod SameSections

@@ -1,11 +1,14 @@
 -- The network of a project is one.
-use Rattle.std.proofs.Common.{◌≡◌, ℕ, zero, suc, ◌+◌, ◌*◌, ◌<◌, ◌≤◌, List, [], ◌∷◌, ◌++◌, map, length, Option, Some, None, true, slice_get, slice_index, fold, Ok, All, refl, ap, sym, ◌∙◌, subst, arith, length-append}
+use Rattle.std.proofs.Common.{◌≡◌, ℕ, zero, suc, ◌+◌, ◌*◌, ◌<◌, ◌≤◌, List, [], ◌∷◌, ◌++◌, map, length, Option, Some, None, true, slice_get, slice_index, fold, sum_by, Ok, Err, All, refl, ap, sym, ◌∙◌, subst, arith, length-append}
 use Rattle.std.specs.Prelude.{unwrap_or}
 use Rattle.std.specs.List.{range_with_len, flat_map}
 use Rattle.std.proofs.lemmas.List.{length-map}
 use Rattle.std.proofs.lemmas.List.FromFn.{get_or-map-range_with_len, length-map-range_with_len}
 use Rattle.std.proofs.lemmas.Option.{slice_get-get_or}
-use Rattle.duct_units.specs.Rules.{first_broken, unless_refused}
+use Rattle.duct_units.specs.declared.fault.Fault.{Fault}
+use Rattle.duct_units.specs.declared.fault.ReadError.{ReadError}
+use Rattle.duct_units.specs.declared.fault.ReadError.TheVariants.{Refused, NoMemory}
+use Rattle.duct_units.specs.Rules.{Fails, first_broken, unless_refused}
 use Rattle.duct_definitions.specs.declared.design.NetFan.{NetFan}
 use Rattle.duct_definitions.specs.declared.listed.RuleCount.{RuleCount}
 use Rattle.duct_units.proofs.RuleLaws.{none_broken, rule_holds}
@@ -23,9 +26,9 @@ use Rattle.name_index.specs.Places.{is_among}
 use Rattle.design_rules.specs.Meanings.{Meaning}
 use Rattle.net_build.specs.declared.sections.SectionSizes.{SectionSizes}
 use Rattle.net_build.specs.Rows.{row_at}
-use Rattle.net_build.specs.Asking.{none_counted, counts_of, added, added_from, refused_together}
-use Rattle.net_build.specs.Built.{built, network_of, network_and_refusals, pairs_of, section_pairs, size_names, names_of_numbers, with_pairs_and_fans}
-use Rattle.net_build.specs.Refusals.{refusals, refusal_count, refused_among, counts_from}
+use Rattle.net_build.specs.Asking.{none_counted, counts_of}
+use Rattle.net_build.specs.Built.{built, built_by_section, network_of, network_and_counts, network_and_refusals, pairs_of, section_pairs, size_names, names_of_numbers, with_pairs_and_fans}
+use Rattle.net_build.specs.Refusals.{refusals, refusal_count, refused_in, refusals_of, section_refusals, counts_from, count_of, counted_together}
 use Rattle.net_build.specs.Catalogues.{Catalogues}
 use Rattle.net_build.specs.Fans.{offered}
 use Rattle.net_build.specs.Joining.{joining_rules, rules_of_section}
@@ -164,26 +167,63 @@ none-space names refusals most is i = subst (λ (rs : List RuleCount). slice_ind
     zero-at (name ∷ names) zero = omega arith
     zero-at (name ∷ names) (suc i) = zero-at names i
 
-counted-from : (by other : ℕ → ℕ) (k : ℕ) (names : List (List ℕ)) → ((i : ℕ) → by i ≡ other i) → added_from by k (none_counted names) ≡ counts_from other k names
-counted-from by other k [] same = refl
-counted-from by other k (name ∷ names) same =
-    ap (λ n. record { name = name; count = n } ∷ added_from by (k + 1) (none_counted names)) (let e = same k in omega arith)
-    ∙ ap (λ rest. record { name = name; count = other k } ∷ rest) (counted-from by other (k + 1) names same)
+joined-counts : (p : Project) (c : Catalogues) (rules : List Meaning) (names : List (List ℕ)) (xs : List ℕ) → map (refusals_of c rules names) (map (section_sizes p c) xs) ≡ map (section_refusals p c rules names) xs
+joined-counts p c rules names [] = refl
+joined-counts p c rules names (x ∷ xs) = ap (λ rest. section_refusals p c rules names x ∷ rest) (joined-counts p c rules names xs)
 
-fold-map : (f : SectionSizes → ℕ) (g : ℕ → SectionSizes) (a : ℕ) (xs : List ℕ) → fold (λ a x. a + f x) a (map g xs) ≡ fold (λ a x. a + f (g x)) a xs
-fold-map f g a [] = refl
-fold-map f g a (x ∷ xs) = fold-map f g (a + f (g x)) xs
+-- the counts are those of the sections
+pub built-counts : (p : Project) (c : Catalogues) (rules : List Meaning) (names : List (List ℕ)) (counts : List (List RuleCount)) (all : List SectionSizes) → all ≡ map (section_sizes p c) (sections p.tree)
+    → counts ≡ map (refusals_of c rules names) all → counts ≡ map (section_refusals p c rules names) (sections p.tree)
+built-counts p c rules names counts all found is = is ∙ ap (map (refusals_of c rules names)) found ∙ joined-counts p c rules names (sections p.tree)
 
-pub built-refusals : (p : Project) (c : Catalogues) (rules : List Meaning) (names : List (List ℕ)) (start now : List RuleCount) (all : List SectionSizes) → all ≡ map (section_sizes p c) (sections p.tree) → start ≡ none_counted names
-    → now ≡ added (refused_together c rules all) start → now ≡ refusals p c rules names
-built-refusals p c rules names start now all found begun is =
-    is ∙ ap (added (refused_together c rules all)) begun
-    ∙ counted-from (refused_together c rules all) (refusal_count p c rules) 0 names
-    (λ i. ap (λ xs. refused_together c rules xs i) found ∙ fold-map (λ section. refused_among c rules section (size_pairs section) i) (section_sizes p c) 0 (sections p.tree))
-
-pub built-whole : (p : Project) (c same : Catalogues) (fans : List FanRow) (rules : List Meaning) (names : List (List ℕ)) (net : Network) (counts : List RuleCount) → same ≡ c → first_broken (joining_rules p c) ≡ None
-    → net ≡ network_of p c fans rules → counts ≡ refusals p c rules names → built p same fans rules names ≡ Ok (net, counts)
+pub built-whole : (p : Project) (c same : Catalogues) (fans : List FanRow) (rules : List Meaning) (names : List (List ℕ)) (net : Network) (counts : List (List RuleCount)) → same ≡ c → first_broken (joining_rules p c) ≡ None
+    → net ≡ network_of p c fans rules → counts ≡ map (section_refusals p c rules names) (sections p.tree) → built_by_section p same fans rules names ≡ Ok (net, counts)
 built-whole p c same fans rules names net counts one none nets refuse =
-    ap (λ x. built p x fans rules names) one
-    ∙ ap (λ o. unless_refused o (network_and_refusals p c fans rules names)) none
-    ∙ ap (λ n. Ok (n, refusals p c rules names)) (sym nets) ∙ ap (λ r. Ok (net, r)) (sym refuse)
+    ap (λ x. built_by_section p x fans rules names) one
+    ∙ ap (λ o. unless_refused o (network_and_counts p c fans rules names)) none
+    ∙ ap (λ n. Ok (n, map (section_refusals p c rules names) (sections p.tree))) (sym nets) ∙ ap (λ r. Ok (net, r)) (sym refuse)
+
+-- ---- the sum of the sections' counts
+
+get-counts : (f : ℕ → ℕ) (k i : ℕ) (names : List (List ℕ)) → i < length names → count_of i (counts_from f k names) ≡ f (k + i)
+get-counts f k i [] less = absurd (omega arith)
+get-counts f k zero (name ∷ names) less = ap f (omega arith)
+get-counts f k (suc i) (name ∷ names) less = get-counts f (k + 1) i names (omega arith) ∙ ap f (omega arith)
+
+fold-same : (f g : List RuleCount → ℕ) (h : ℕ → ℕ) (at : ℕ → List RuleCount) (a : ℕ) (xs : List ℕ) → ((x : ℕ) → f (at x) ≡ h x) → fold (λ a x. a + f x) a (map at xs) ≡ fold (λ a x. a + h x) a xs
+fold-same f g h at a [] same = refl
+fold-same f g h at a (x ∷ xs) same = ap (λ b. fold (λ a x. a + f x) b (map at xs)) (let e = same x in omega arith) ∙ fold-same f g h at (a + h x) xs same
+
+counts-same : (f g : ℕ → ℕ) (k : ℕ) (names : List (List ℕ)) → ((i : ℕ) → i < length names → f (k + i) ≡ g (k + i)) → counts_from f k names ≡ counts_from g k names
+counts-same f g k [] same = refl
+counts-same f g k (name ∷ names) same =
+    ap (λ n. record { name = name; count = n } ∷ counts_from f (k + 1) names) (ap f (omega arith) ∙ same 0 (omega arith) ∙ ap g (omega arith))
+    ∙ ap (λ rest. record { name = name; count = g k } ∷ rest) (counts-same f g (k + 1) names (λ i less. ap f (omega arith) ∙ same (suc i) (omega arith) ∙ ap g (omega arith)))
+
+-- the counts of all sections together are those of the project
+pub counted-refusals : (p : Project) (c : Catalogues) (rules : List Meaning) (names : List (List ℕ)) → counted_together (map (section_refusals p c rules names) (sections p.tree)) names ≡ refusals p c rules names
+counted-refusals p c rules names =
+    counts-same (λ i. sum_by (count_of i) (map (section_refusals p c rules names) (sections p.tree))) (refusal_count p c rules) 0 names
+    (λ i less. fold-same (count_of (0 + i)) (count_of (0 + i)) (refused_in p c rules (0 + i)) (section_refusals p c rules names) 0 (sections p.tree)
+    (λ s. ap (λ j. count_of j (section_refusals p c rules names s)) (let e : 0 + i ≡ i = omega arith in e) ∙ get-counts (λ j. refused_in p c rules j s) 0 i names less))
+
+-- a network with its counts, from the one with the counts of each section
+pub built-together : (p : Project) (c : Catalogues) (fans : List FanRow) (rules : List Meaning) (names : List (List ℕ)) (net : Network) (counts : List (List RuleCount)) (all : List RuleCount)
+    → built_by_section p c fans rules names ≡ Ok (net, counts) → all ≡ counted_together counts names → built p c fans rules names ≡ Ok (net, all)
+built-together p c fans rules names net counts all is sum = by (first_broken (joining_rules p c)) is
+  where
+    by : (o : Option Fault) → unless_refused o (network_and_counts p c fans rules names) ≡ Ok (net, counts) → unless_refused o (network_and_refusals p c fans rules names) ≡ Ok (net, all)
+    by None e =
+        (let pair : network_and_counts p c fans rules names ≡ (net, counts) = cc in
+        ap (λ r. Ok (network_of p c fans rules, r)) (sym (counted-refusals p c rules names)) ∙ ap (λ x. Ok (x.0, counted_together x.1 names)) pair ∙ ap (λ r. Ok (net, r)) (sym sum))
+    by (Some fault) e = absurd (cc e)
+
+-- a name that joins nothing is the same refusal of both
+pub built-refused : (p : Project) (c : Catalogues) (fans : List FanRow) (rules : List Meaning) (names : List (List ℕ)) (error : ReadError)
+    → Fails error (built_by_section p c fans rules names) → Fails error (built p c fans rules names)
+built-refused p c fans rules names (Refused fault) is = by (first_broken (joining_rules p c)) is
+  where
+    by : (o : Option Fault) → unless_refused o (network_and_counts p c fans rules names) ≡ Err fault → unless_refused o (network_and_refusals p c fans rules names) ≡ Err fault
+    by None e = absurd (cc e)
+    by (Some other) e = (let same : other ≡ fault = cc in ap (λ f. Err f) same)
+built-refused p c fans rules names NoMemory is = is

@@ -3,10 +3,9 @@
 --   chosen c section k         one size of the section, with what it loses by itself and costs
 --   added by refusals          the counts, each risen by its number
 --   Asked n old new            the rules are the same, and none has refused more than n times more
-use Rattle.std.specs.Prelude.{ℕ, ◌+◌, ◌<◌, ◌≤◌, List, [], ◌∷◌, length, map, false, true, All, IfSome, slice_index, sum_by}
+use Rattle.std.specs.Prelude.{ℕ, ◌+◌, ◌<◌, ◌≤◌, List, [], ◌∷◌, length, map, false, true, All, IfSome, slice_index}
 use Rattle.std.specs.Option.{ForSome}
 use Rattle.duct_definitions.specs.declared.listed.RuleCount.{RuleCount}
-use Rattle.duct_definitions.specs.Tree.{sections}
 use Rattle.friction_table.specs.Reading.{table_of}
 use Rattle.size_catalogue.specs.declared.limits.TheConstants.{MAX_LIST_SIZES}
 use Rattle.duct_definitions.specs.declared.limits.TheConstants.{MAX_PRICE}
@@ -19,8 +18,6 @@ use Rattle.design_rules.specs.Meanings.{Meaning, SameRules}
 use Rattle.net_build.specs.declared.sections.SectionSizes.{SectionSizes}
 use Rattle.net_build.specs.declared.asking.ChosenSize.{ChosenSize}
 use Rattle.net_build.specs.Catalogues.{Catalogues, size_at}
-use Rattle.net_build.specs.Pairs.{size_pairs}
-use Rattle.net_build.specs.Refusals.{refused_among}
 use Rattle.net_build.specs.Sections.{number_of}
 
 -- the numbers are those of sizes, and no more than a list has; the facts are within their bounds
@@ -67,11 +64,6 @@ counts_of refusals = map (λ rule. rule.count) refusals
 -- each name with the count 0
 abbrev pub none_counted : List (List ℕ) → List RuleCount
 none_counted names = map (λ name. record { name = name; count = 0 }) names
-
--- how many pairs of these sections rule i refuses, and no rule before it
-abbrev pub refused_together : Catalogues → List Meaning → List SectionSizes → ℕ → ℕ
-refused_together c rules sections i =
-    sum_by (λ section. refused_among c rules section (size_pairs section) i) sections
 
 -- the rules are the same, and none has refused more than n times more
 pub record Asked {B : Type 0} (allows : B → Meaning) (label : B → List ℕ) (count : B → ℕ) (n : ℕ) (old new : List B) : Type 0 where

@@ -1,6 +1,8 @@
 -- The network of a project, its catalogues and the rules of sizes.
 --   network_of p c fans rules       the tree, the sizes of each section's list, the permitted pairs, and the fans on offer
 --   built p c fans rules names      the network with the rules' counts, or the first name that joins nothing
+--   built_by_section                the same with the counts of each section
+--   section_built p c rules names s     the pairs and the counts of section s alone
 use Rattle.std.specs.Prelude.{ℕ, List, [], map, Option, Result}
 use Rattle.duct_units.specs.declared.fault.Fault.{Fault}
 use Rattle.duct_units.specs.Rules.{first_broken, unless_refused}
@@ -13,13 +15,14 @@ use Rattle.duct_definitions.specs.Tree.{sections}
 use Rattle.fan_points.specs.declared.row.FanRow.{FanRow}
 use Rattle.project_file.specs.declared.project.Project.{Project}
 use Rattle.design_rules.specs.Meanings.{Meaning}
+use Rattle.net_build.specs.declared.by_section.BuiltSection.{BuiltSection}
 use Rattle.net_build.specs.declared.sections.SectionSizes.{SectionSizes}
 use Rattle.net_build.specs.Catalogues.{Catalogues, size_at}
 use Rattle.net_build.specs.Joining.{joining_rules}
 use Rattle.net_build.specs.Sections.{numbers_at, section_sizes}
 use Rattle.net_build.specs.Pairs.{size_pairs, pair_of}
 use Rattle.net_build.specs.Fans.{offered}
-use Rattle.net_build.specs.Refusals.{refusals}
+use Rattle.net_build.specs.Refusals.{refusals, section_refusals}
 
 -- the names of the sizes with these numbers
 abbrev pub names_of_numbers : Catalogues → List ℕ → List (List ℕ)
@@ -61,3 +64,18 @@ network_and_refusals p c fans rules names = (network_of p c fans rules, refusals
 -- the network with the rules' counts; or the fault of the first name that joins nothing
 abbrev pub built : Project → Catalogues → List FanRow → List Meaning → List (List ℕ) → Result (Network × List RuleCount) Fault
 built p c fans rules names = unless_refused (first_broken (joining_rules p c)) (network_and_refusals p c fans rules names)
+
+-- the network, with how many pairs of each section each rule refused
+abbrev pub network_and_counts : Project → Catalogues → List FanRow → List Meaning → List (List ℕ) → Network × List (List RuleCount)
+network_and_counts p c fans rules names =
+    (network_of p c fans rules, map (section_refusals p c rules names) (sections p.tree))
+
+-- the network with the counts of each section; or the fault of the first name that joins nothing
+abbrev pub built_by_section : Project → Catalogues → List FanRow → List Meaning → List (List ℕ) → Result (Network × List (List RuleCount)) Fault
+built_by_section p c fans rules names =
+    unless_refused (first_broken (joining_rules p c)) (network_and_counts p c fans rules names)
+
+-- the pairs of section s, and how many of them each rule refused
+abbrev pub section_built : Project → Catalogues → List Meaning → List (List ℕ) → ℕ → BuiltSection
+section_built p c rules names s =
+    record { pairs = section_pairs p c rules s; refusals = section_refusals p c rules names s }

@@ -2,7 +2,9 @@
 --   is_refused_by i         rule i refuses the pair, and no rule before it does; only where there is friction
 --   refusal_count i         how many pairs of all sections rule i refuses so
 --   refusals names          the counts of all rules, with their names, in order
-use Rattle.std.specs.Prelude.{ℕ, ◌+◌, List, [], ◌∷◌, length, filter, sum_by, Bool, ◌&&◌}
+--   section_refusals s      the same of the pairs of section s alone
+--   counted_together        the counts of all rules, from those of each section
+use Rattle.std.specs.Prelude.{ℕ, ◌+◌, ◌≤◌, List, [], ◌∷◌, length, map, filter, sum_by, slice_index, Bool, ◌&&◌}
 use Rattle.duct_definitions.specs.declared.listed.RuleCount.{RuleCount}
 use Rattle.duct_definitions.specs.Tree.{sections}
 use Rattle.project_file.specs.declared.project.Project.{Project}
@@ -38,3 +40,23 @@ counts_from count i (name ∷ names) = record { name = name; count = count i } �
 -- the counts of all rules, with their names, in order
 abbrev pub refusals : Project → Catalogues → List Meaning → List (List ℕ) → List RuleCount
 refusals p c rules names = counts_from (refusal_count p c rules) 0 names
+
+-- the same counts of the pairs of one section
+abbrev pub refusals_of : Catalogues → List Meaning → List (List ℕ) → SectionSizes → List RuleCount
+refusals_of c rules names section = counts_from (refused_among c rules section (size_pairs section)) 0 names
+
+-- the same of section s
+abbrev pub section_refusals : Project → Catalogues → List Meaning → List (List ℕ) → ℕ → List RuleCount
+section_refusals p c rules names s = refusals_of c rules names (section_sizes p c s)
+
+-- the count of rule i, 0 where there is no such rule
+abbrev pub count_of : ℕ → List RuleCount → ℕ
+count_of i refusals = slice_index (map (λ rule. rule.count) refusals) i
+
+-- no rule counts more than n
+abbrev pub CountsWithin : ℕ → List RuleCount → Type 0
+CountsWithin n refusals = (i : ℕ) → count_of i refusals ≤ n
+
+-- how many refusals of each rule these sections have together, with the rules' names
+abbrev pub counted_together : List (List RuleCount) → List (List ℕ) → List RuleCount
+counted_together sections names = counts_from (λ i. sum_by (count_of i) sections) 0 names

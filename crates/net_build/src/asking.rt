@@ -12,10 +12,9 @@ ghost use Rattle.net_build.specs.Catalogues.{size_at};
 ghost use Rattle.net_build.specs.Pairs.{SizePair, has_friction, pair_of, possible_pair, pairs_in_size, size_pairs};
 ghost use Rattle.net_build.specs.Refusals.{refused_among};
 ghost use Rattle.net_build.specs.Sections.{area_beside, beside_of, told};
-ghost use Rattle.net_build.specs.Asking.{chosen, IsChosen, IsOpen, added, counts_of, none_counted, refused_together, Asked};
+ghost use Rattle.net_build.specs.Asking.{chosen, IsChosen, IsOpen, added, counts_of, none_counted, Asked};
 
 use crate::catalogues::Catalogues;
-use crate::limits::MAX_ASKED;
 use crate::sections::SectionSizes;
 use design_rules::{MAX_RULES, PairFacts, SizeRule, judge};
 use duct_definitions::{Pair, RuleCount};
@@ -41,34 +40,6 @@ pub(crate) struct ChosenSize {
     pub stepped_price: u64,
 }
 
-/// The pairs of all sections, section by section.
-pub(crate) fn all_pairs<R: SizeRule>(
-    alloc: Global,
-    catalogues: &Catalogues<'_>,
-    sections: &[SectionSizes],
-    rules: &mut Vec<R>,
-    refusals: &mut Vec<RuleCount>,
-) -> Result<List<List<Option<Pair>>>, NoMemory>
-    requires open { All (IsOpen catalogues.now) sections.now }
-    requires sections { length sections.now ≤ 500 }
-    requires few { length rules.old.items ≤ MAX_RULES }
-    requires long { length refusals.old.items ≡ length rules.old.items }
-    requires room { (i : ℕ) → slice_index (map R.count rules.old.items) i ≤ u64.MAX - MAX_ASKED }
-    requires space { (i : ℕ) → slice_index (counts_of refusals.old.items) i ≤ u64.MAX - MAX_ASKED }
-    ensures value { IfOk result (λ pairs. pairs ≡ map (pairs_of catalogues.now (map R.allows rules.old.items)) sections.now) }
-    ensures bounds { IfOk result (All (All IsBounded)) }
-    ensures refusals { OnOk result (refusals.new.items
-        ≡ added (refused_together catalogues.now (map R.allows rules.old.items) sections.now) refusals.old.items) }
-    ensures asked { Asked R.allows R.label R.count MAX_ASKED rules.old.items rules.new.items }
-{
-    let mut pairs = Vec::new(alloc);
-    for s in 0..sections.len() {
-        let section = section_pairs(alloc, catalogues, &sections[s], rules, refusals)?;
-        pairs.push(section)?;
-    }
-    Ok(List::from_vec(pairs))
-}
-
 /// The names of the rules, none of which has refused anything yet.
 pub(crate) fn none_refused<R: SizeRule>(
     alloc: Global,
@@ -86,7 +57,7 @@ pub(crate) fn none_refused<R: SizeRule>(
     Ok(refusals)
 }
 
-fn name_of<R: SizeRule>(rule: &R) -> Name
+pub(crate) fn name_of<R: SizeRule>(rule: &R) -> Name
     ensures { result ≡ R.label rule.now }
 {
     rule.name()

@@ -6,17 +6,18 @@ ghost use Rattle.project_file.specs.Projects.{IsProject};
 ghost use Rattle.duct_definitions.specs.Network.{IsNetwork};
 ghost use Rattle.duct_definitions.specs.Tree.{sections as tree_sections};
 ghost use Rattle.net_build.specs.Catalogues.{Catalogues as CataloguesData, HasFriction};
-ghost use Rattle.net_build.specs.Asking.{IsOpen};
-ghost use Rattle.net_build.specs.Built.{built, names_of_numbers, with_pairs_and_fans};
+ghost use Rattle.net_build.specs.Asking.{IsOpen, Asked};
+ghost use Rattle.net_build.specs.Built.{built, built_by_section, names_of_numbers, with_pairs_and_fans};
+ghost use Rattle.net_build.specs.Refusals.{CountsWithin};
 ghost use Rattle.net_build.specs.Sections.{section_sizes};
 
-use crate::asking::{all_pairs, none_refused};
+use crate::by_section::{Refusals, all_built, count_together};
 use crate::catalogues::Catalogues;
-use crate::limits::MAX_ASKED;
+use crate::limits::{MAX_ASKED, MAX_SECTION_ASKED};
 use crate::offering::offer;
 use crate::sections::{SectionSizes, all_sections};
 use design_rules::{MAX_RULES, SizeRule};
-use duct_definitions::{NetFan, Pair, RuleCount};
+use duct_definitions::{MAX_SECTIONS, NetFan, Pair};
 use duct_units::{List, Name, NoMemory, ReadError};
 use fan_points::Fans;
 use fitting_tables::Fittings;
@@ -25,9 +26,6 @@ use net_model::Network;
 use project_file::{Project, SectionRow};
 use size_catalogue::{Sizes, sizes_are_a_catalogue};
 use std::alloc::Global;
-
-/// How many pairs of sizes each rule refused, in the order of the rules.
-pub type Refusals = List<RuleCount>;
 
 /// The network of the project by its catalogues and the rules, with the rules' counts; or the first name that joins
 /// nothing: section by section its list, the fitting table of its junction and its preset. A rule is asked only where a
@@ -50,17 +48,34 @@ pub fn build_with<R: SizeRule>(
     ensures same { SameRules R.allows R.label rules.old.items rules.new.items }
     ensures risen { (i : ℕ) → slice_index (map R.count rules.new.items) i ≤ slice_index (map R.count rules.old.items) i + MAX_ASKED }
 {
+    let (net, refusals) = build_by_section(alloc, project, sizes, friction, fittings, fans, rules)?;
+    Ok((net, count_together(alloc, rules, refusals.as_slice())?))
+}
+
+/// The same with the rules' counts in each section.
+pub fn build_by_section<R: SizeRule>(
+    alloc: Global,
+    project: &Project,
+    sizes: &Sizes,
+    friction: &Friction,
+    fittings: &Fittings,
+    fans: &Fans,
+    rules: &mut Vec<R>,
+) -> Result<(Network, List<Refusals>), ReadError>
+    requires project { IsProject project.now }
+    requires friction { HasFriction sizes.now friction.now }
+    requires few { length rules.old.items ≤ MAX_RULES }
+    requires room { (i : ℕ) → slice_index (map R.count rules.old.items) i ≤ u64.MAX - MAX_ASKED }
+    ensures value { let c : CataloguesData = record { sizes = sizes.now; friction = friction.now; fittings = fittings.now } in
+        Gives result (built_by_section project.now c fans.now (map R.allows rules.old.items) (map R.label rules.old.items)) }
+    ensures count { IfOk result (λ built. length built.1 ≤ MAX_SECTIONS) }
+    ensures most { IfOk result (λ built. All (CountsWithin MAX_SECTION_ASKED) built.1) }
+    ensures asked { Asked R.allows R.label R.count MAX_ASKED rules.old.items rules.new.items }
+{
     sizes_are_a_catalogue(sizes);
     let catalogues = Catalogues::new(sizes, friction, fittings);
     let sections = all_sections(alloc, project, &catalogues)?;
-    let mut refusals = none_refused(alloc, rules)?;
-    let pairs = all_pairs(
-        alloc,
-        &catalogues,
-        sections.as_slice(),
-        rules,
-        &mut refusals,
-    )?;
+    let (pairs, refusals) = all_built(alloc, &catalogues, sections.as_slice(), rules)?;
     let fans = offer(alloc, fans, &project.energy, project.flows.fan_flow())?;
     let net = network(
         alloc,
@@ -70,7 +85,7 @@ pub fn build_with<R: SizeRule>(
         pairs,
         fans,
     )?;
-    Ok((net, List::from_vec(refusals)))
+    Ok((net, refusals))
 }
 
 /// The same for rules that are handed in and have refused nothing yet. They are dropped before the call returns.

@@ -10,7 +10,7 @@ ghost use Rattle.section_loss.specs.Facts.{IsFacts, IsJoined};
 ghost use Rattle.section_loss.specs.Loss.{own_loss_of, junction_loss_of};
 ghost use Rattle.section_loss.specs.declared.limits.TheConstants.{MAX_FITTING_LOSS, MAX_OWN_LOSS};
 ghost use Rattle.net_build.specs.Catalogues.{HasFriction, numbers_named, size_at};
-ghost use Rattle.net_build.specs.Joining.{place_among};
+ghost use Rattle.net_build.specs.Joining.{place_among, preset_place};
 
 use duct_units::{List, Name, NoMemory};
 use fitting_tables::Fittings;
@@ -66,10 +66,7 @@ impl<'a> Catalogues<'a> {
         ensures within { IfOk result (All (λ n. n < length self.now.sizes.sizes)) }
         ensures few { IfOk result (λ numbers. length numbers ≤ MAX_LIST_SIZES) }
     {
-        match self.sizes.list(list) {
-            Some(list) => numbers_of(alloc, self.sizes, list),
-            None => Ok(List::from_vec(Vec::new(alloc))),
-        }
+        numbers_named(alloc, self.sizes, list)
     }
 
     /// The size with the number.
@@ -94,8 +91,7 @@ impl<'a> Catalogues<'a> {
         requires { length numbers.now ≤ MAX_LIST_SIZES }
         ensures { result ≡ option_and_then (λ number. place_among number numbers.now) (place_of name.now (names_of self.now.sizes.sizes)) }
     {
-        let number = self.sizes.named(name)?;
-        place_among(numbers, number)
+        place_of_size(self.sizes, numbers, name)
     }
 
     /// What a section loses in the size with the number whatever stands beside it, dPa.
@@ -120,6 +116,40 @@ impl<'a> Catalogues<'a> {
     {
         junction_loss(facts, self.fittings, size, beside)
     }
+}
+
+/// The place, in the list with the name, of the size with the name; None where the list has no such size.
+pub fn place_in_list(
+    alloc: Global,
+    sizes: &Sizes,
+    list: &Name,
+    size: &Name,
+) -> Result<Option<u32>, NoMemory>
+    ensures { IfOk result (λ place. place ≡ preset_place sizes.now list.now size.now) }
+{
+    let numbers = numbers_named(alloc, sizes, list)?;
+    Ok(place_of_size(sizes, numbers.as_slice(), size))
+}
+
+// The numbers of the sizes of the list with the name, rising; none where no list has it.
+fn numbers_named(alloc: Global, sizes: &Sizes, list: &Name) -> Result<List<u32>, NoMemory>
+    ensures value { IfOk result (λ numbers. numbers ≡ numbers_named sizes.now list.now) }
+    ensures within { IfOk result (All (λ n. n < length sizes.now.sizes)) }
+    ensures few { IfOk result (λ numbers. length numbers ≤ MAX_LIST_SIZES) }
+{
+    match sizes.list(list) {
+        Some(list) => numbers_of(alloc, sizes, list),
+        None => Ok(List::from_vec(Vec::new(alloc))),
+    }
+}
+
+// The place, among these numbers, of the size with the name.
+fn place_of_size(sizes: &Sizes, numbers: &[u32], name: &Name) -> Option<u32>
+    requires { length numbers.now ≤ MAX_LIST_SIZES }
+    ensures { result ≡ option_and_then (λ number. place_among number numbers.now) (place_of name.now (names_of sizes.now.sizes)) }
+{
+    let number = sizes.named(name)?;
+    place_among(numbers, number)
 }
 
 // The place, from 0, of the number among the numbers.

@@ -6,14 +6,17 @@
 
 mod asking;
 mod building;
+mod by_section;
 mod catalogues;
 mod laws;
 mod limits;
 mod offering;
 mod sections;
 
-pub use building::{Refusals, build, build_with};
+pub use building::{build, build_by_section, build_with};
+pub use by_section::{BuiltSection, Refusals, build_section, count_together};
+pub use catalogues::place_in_list;
 pub use duct_definitions::RuleCount;
 pub use laws::limits_as_numbers;
-pub use limits::MAX_ASKED;
+pub use limits::{MAX_ASKED, MAX_SECTION_ASKED};
 pub use offering::offer;

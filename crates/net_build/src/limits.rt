@@ -1,4 +1,7 @@
 //! The most that a rule counts.
 
-/// The most pairs of sizes that one rule is asked about in a project: 500 sections of 24 sizes beside 24 sizes.
+/// The most pairs of sizes that one rule is asked about in a section: 24 sizes beside 24 sizes.
+pub const MAX_SECTION_ASKED: u64 = 576;
+
+/// The most pairs of sizes that one rule is asked about in a project: those of 500 sections.
 pub const MAX_ASKED: u64 = 288_000;

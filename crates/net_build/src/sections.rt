@@ -50,8 +50,8 @@ pub(crate) fn all_sections(
     Ok(List::from_vec(sections))
 }
 
-// Section `s`, or the first of its names that joins nothing.
-fn section_sizes(
+/// Section `s`, or the first of its names that joins nothing.
+pub(crate) fn section_sizes(
     alloc: Global,
     project: &Project,
     catalogues: &Catalogues<'_>,

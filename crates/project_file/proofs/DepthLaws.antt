@@ -15,7 +15,7 @@ use Rattle.section_tables.specs.TreeSections.{tree_section_at}
 use Rattle.section_tables.proofs.StepLaws.{named_holds}
 use Rattle.project_file.specs.declared.format.Format.{Format}
 use Rattle.project_file.specs.declared.format.Format.TheVariants.{One, Two}
-use Rattle.project_file.specs.declared.limits.TheConstants.{MAX_DENSITY}
+use Rattle.duct_definitions.specs.declared.duct.TheConstants.{MAX_DENSITY}
 use Rattle.project_file.specs.Ascending.{KeysAscend}
 use Rattle.project_file.specs.Shallow.{AreShallow}
 use Rattle.project_file.specs.Energy.{energy_keys, energy_of, energy_rules, energy_table}

@@ -16,7 +16,7 @@ use Rattle.fan_points.specs.declared.terms.Energy.{Energy}
 use Rattle.section_tables.proofs.SequenceLaws.{all_hold, given}
 use Rattle.project_file.specs.declared.format.Format.{Format}
 use Rattle.project_file.specs.declared.format.Format.TheVariants.{One, Two}
-use Rattle.project_file.specs.declared.limits.TheConstants.{MAX_DENSITY}
+use Rattle.duct_definitions.specs.declared.duct.TheConstants.{MAX_DENSITY}
 use Rattle.project_file.specs.declared.project.Project.{Project}
 use Rattle.project_file.specs.declared.section_table.SectionTable.{SectionTable}
 use Rattle.project_file.specs.declared.size_limits.SizeLimits.{SizeLimits}

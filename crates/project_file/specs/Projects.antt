@@ -10,7 +10,7 @@ use Rattle.duct_definitions.specs.Network.{AreNames}
 use Rattle.duct_definitions.specs.Tree.{neighbour, section_count, IsTree}
 use Rattle.duct_definitions.specs.declared.airflow.TheConstants.{MAX_LEAK}
 use Rattle.fan_points.specs.Energy.{IsEnergy}
-use Rattle.project_file.specs.declared.limits.TheConstants.{MAX_DENSITY, MAX_LENGTH, MAX_LOCAL, MAX_DEVICE}
+use Rattle.duct_definitions.specs.declared.duct.TheConstants.{MAX_DENSITY, MAX_LENGTH, MAX_LOCAL, MAX_DEVICE}
 use Rattle.project_file.specs.declared.project.Project.{Project}
 use Rattle.project_file.specs.declared.section_row.SectionRow.{SectionRow}
 use Rattle.project_file.specs.Limits.{IsVelocity, IsHeight}

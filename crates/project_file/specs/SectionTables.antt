@@ -14,7 +14,8 @@ use Rattle.toml_fields.specs.KeyFields.{optional_number_at, optional_name_at}
 use Rattle.section_tables.specs.TreeSections.{tree_section_at}
 use Rattle.project_file.specs.declared.format.Format.{Format}
 use Rattle.project_file.specs.declared.format.Format.TheVariants.{One, Two}
-use Rattle.project_file.specs.declared.limits.TheConstants.{MAX_LENGTH, MAX_LOCAL, MAX_DEVICE, MAX_VELOCITY, MAX_HEIGHT}
+use Rattle.duct_definitions.specs.declared.duct.TheConstants.{MAX_LENGTH, MAX_LOCAL, MAX_DEVICE}
+use Rattle.project_file.specs.declared.limits.TheConstants.{MAX_VELOCITY, MAX_HEIGHT}
 use Rattle.project_file.specs.declared.section_table.SectionTable.{SectionTable}
 
 -- the keys that the table of a section may have in both formats

@@ -3,7 +3,7 @@ use Rattle.std.specs.Prelude.{◌≡◌, ℕ, ◌≤◌, List, map, Option, Some
 use Rattle.duct_units.specs.Name.{is_name}
 use Rattle.duct_definitions.specs.declared.airflow.TheConstants.{MAX_FLOW, MAX_LEAK}
 use Rattle.section_tables.specs.declared.tree_section.TreeSection.{TreeSection}
-use Rattle.project_file.specs.declared.limits.TheConstants.{MAX_LENGTH, MAX_LOCAL, MAX_DEVICE}
+use Rattle.duct_definitions.specs.declared.duct.TheConstants.{MAX_LENGTH, MAX_LOCAL, MAX_DEVICE}
 use Rattle.project_file.specs.declared.section_row.SectionRow.{SectionRow}
 use Rattle.project_file.specs.declared.section_table.SectionTable.{SectionTable}
 use Rattle.project_file.specs.declared.size_limits.SizeLimits.{SizeLimits}

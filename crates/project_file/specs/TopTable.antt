@@ -11,7 +11,7 @@ use Rattle.fan_points.specs.declared.terms.Energy.{Energy}
 use Rattle.project_file.specs.declared.format.Format.{Format}
 use Rattle.project_file.specs.declared.format.Format.TheVariants.{One, Two}
 use Rattle.project_file.specs.declared.head.Head.{Head}
-use Rattle.project_file.specs.declared.limits.TheConstants.{MAX_DENSITY}
+use Rattle.duct_definitions.specs.declared.duct.TheConstants.{MAX_DENSITY}
 use Rattle.project_file.specs.declared.size_limits.SizeLimits.{SizeLimits}
 use Rattle.project_file.specs.Energy.{energy_rules, energy_in}
 use Rattle.project_file.specs.Limits.{limits_rules, limits_in, AreLimits}

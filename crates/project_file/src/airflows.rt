@@ -11,11 +11,7 @@ use duct_units::{List, NoMemory, ReadError};
 use std::alloc::Global;
 
 /// The airflows of the tree with these rows, or the first rule of airflows that they break.
-pub(crate) fn read_flows(
-    alloc: Global,
-    tree: &AirTree,
-    rows: &[SectionRow],
-) -> Result<Flows, ReadError>
+pub fn read_flows(alloc: Global, tree: &AirTree, rows: &[SectionRow]) -> Result<Flows, ReadError>
     requires count { length rows.now ≡ section_count tree.now }
     requires bounds { All IsRow rows.now }
     ensures { let air = airflows_of rows.now in

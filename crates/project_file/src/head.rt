@@ -5,7 +5,7 @@ ghost use Rattle.duct_units.specs.Rules.{unless_refused, first_broken};
 ghost use Rattle.project_file.specs.TopTable.{head_rules, head_in, format_rules, format_in, IsHead};
 
 use crate::format::Format;
-use crate::limits::MAX_DENSITY;
+use duct_definitions::MAX_DENSITY;
 use duct_units::{Fault, Name, Reason};
 use toml::Table;
 use toml_fields::{has_only, integer_at, name_at, number_at};

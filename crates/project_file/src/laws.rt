@@ -11,8 +11,10 @@ ghost use Rattle.project_file.specs.TopTable.{is_format, top_keys};
 ghost use Rattle.project_file.specs.declared.project.Project.{Project as ProjectData};
 ghost use Rattle.project_file.specs.declared.format.Format.TheVariants.{One, Two};
 
-use crate::limits::{MAX_DENSITY, MAX_DEVICE, MAX_HEIGHT, MAX_LENGTH, MAX_LOCAL, MAX_VELOCITY};
-use duct_definitions::{MAX_FLOW, MAX_LEAK, MAX_SECTIONS};
+use crate::limits::{MAX_HEIGHT, MAX_VELOCITY};
+use duct_definitions::{
+    MAX_DENSITY, MAX_DEVICE, MAX_FLOW, MAX_LEAK, MAX_LENGTH, MAX_LOCAL, MAX_SECTIONS,
+};
 use fan_points::{MAX_HOURS, MAX_TARIFF, MAX_WORTH};
 
 /// The limits of docs/FORMATS.md, "Project file", as numbers. Density is in g/m3, hours are those of a year, the tariff

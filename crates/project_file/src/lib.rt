@@ -21,11 +21,12 @@ mod sections;
 mod size_limits;
 mod top;
 
+pub use airflows::read_flows;
 pub use laws::{
     a_project_has_an_airflow_of_each_section, a_raised_document_is_the_same_project,
     a_value_is_put_at_its_key, limits_as_numbers,
 };
-pub use limits::{MAX_DENSITY, MAX_DEVICE, MAX_HEIGHT, MAX_LENGTH, MAX_LOCAL, MAX_VELOCITY};
+pub use limits::{MAX_HEIGHT, MAX_VELOCITY};
 pub use migration::migrate;
 pub use project::Project;
 pub use reading::read_project;

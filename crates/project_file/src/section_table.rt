@@ -4,10 +4,10 @@ ghost use Rattle.toml.specs.View.{table_view};
 ghost use Rattle.project_file.specs.SectionTables.{section_of};
 ghost use Rattle.project_file.specs.Sections.{IsTable};
 
-use crate::limits::{MAX_DEVICE, MAX_HEIGHT, MAX_LENGTH, MAX_LOCAL, MAX_VELOCITY};
+use crate::limits::{MAX_HEIGHT, MAX_VELOCITY};
 use crate::section_row::SectionRow;
 use crate::size_limits::SizeLimits;
-use duct_definitions::{MAX_FLOW, MAX_LEAK};
+use duct_definitions::{MAX_DEVICE, MAX_FLOW, MAX_LEAK, MAX_LENGTH, MAX_LOCAL};
 use duct_units::{Name, Side};
 use section_tables::TreeSection;
 use toml::Table;
