@@ -1,6 +1,6 @@
 -- The answer to words and files is one.
-use Rattle.std.proofs.Common.{◌≡◌, ℕ, inl, inr, List, [], Option, Some, None, Result, Ok, Err, sym, ◌∙◌, ap}
-use Rattle.std.specs.Prelude.{MatchOption, MatchResult}
+use Rattle.std.proofs.Common.{◌≡◌, ℕ, inl, inr, List, [], Option, Some, None, sym, ◌∙◌, ap}
+use Rattle.std.specs.Prelude.{MatchOption, option_map}
 use Rattle.duct_definitions.specs.declared.design.Design.{Design}
 use Rattle.duct_definitions.specs.declared.listed.RuleCount.{RuleCount}
 use Rattle.duct_definitions.specs.Network.{Network}
@@ -16,19 +16,16 @@ use Rattle.duct_load.specs.Summary.{summary}
 use Rattle.duct_cli.specs.declared.status.TheConstants.{REFUSED_WORDS}
 use Rattle.duct_cli.specs.Checking.{checking}
 use Rattle.duct_cli.specs.Designing.{Rules, designing, held_by}
-use Rattle.duct_cli.specs.RefusalText.{words_line}
+use Rattle.command_words.specs.RefusalText.{words_line}
 use Rattle.duct_cli.specs.Taking.{first_too_long}
-use Rattle.duct_cli.specs.Commands.{Command, DesignFiles, FrictionWords, pick, migrate, friction, design, check, make, files_of}
-use Rattle.duct_cli.specs.Words.{command_of}
+use Rattle.command_words.specs.Commands.{Command, DesignFiles, FrictionWords, pick, migrate, friction, design, check, make, certify, verify, takeoff, files_of}
+use Rattle.command_words.specs.Words.{command_of}
 use Rattle.network_file.specs.NetworkFile.{network_of}
-use Rattle.duct_cli.specs.Answer.{Says, AnswersDesign, AnswersProject, AnswersNetwork, AnswersMigration, AnswersFriction, AnswersCheck, AnswersMade, AnswersFiles, AnswersCommand, AreOneText, IsAnswer}
-
--- two statuses are one, and so are their texts
-abbrev AreOne : ℕ → ℕ → List ℕ → List ℕ → Type 0
-AreOne s t one other = (s ≡ t) × (one ≡ other)
-
-says_once : (status : ℕ) (said : List ℕ) (s t : ℕ) (one other : List ℕ) → Says status said s one → Says status said t other → AreOne s t one other
-says_once status said s t one other says again = (says.0 ∙ sym again.0, says.1 ∙ sym again.1)
+use Rattle.duct_cli.specs.Answer.{AnswersDesign, AnswersProject, AnswersNetwork, AnswersMigration, AnswersFriction, AnswersCheck, AnswersMade, AnswersFiles, AnswersCommand, AreOneText, IsAnswer}
+use Rattle.duct_cli.specs.Says.{Says}
+use Rattle.duct_cli.proofs.Once.{AreOne, says_once, result_once, option_once}
+use Rattle.duct_cli.proofs.CertifyingOnce.{certify_once, verify_once}
+use Rattle.duct_cli.proofs.TakingOffOnce.{takeoff_once}
 
 design_once : (net : Network) (refusals : List RuleCount) (s t : ℕ) (one other : List ℕ) → AnswersDesign net refusals s one → AnswersDesign net refusals t other → AreOne s t one other
 design_once net refusals s t one other (inl best) (inl again) =
@@ -37,17 +34,6 @@ design_once net refusals s t one other (inl best) (inl again) =
 design_once net refusals s t one other (inl best) (inr none) = absurd (none.0 best.0 best.1.meets)
 design_once net refusals s t one other (inr none) (inl best) = absurd (none.0 best.0 best.1.meets)
 design_once net refusals s t one other (inr none) (inr again) = says_once _ _ s t one other none.1 again.1
-
--- what is answered by cases is one where it is one in each case
-result_once : {A B : Type 0} (r : Result A B) (P P' : A → Type 0) (Q Q' : B → Type 0) (One : Type 0)
-    → ((a : A) → P a → P' a → One) → ((b : B) → Q b → Q' b → One) → MatchResult r P Q → MatchResult r P' Q' → One
-result_once (Ok a) P P' Q Q' One ok err p p' = ok a p p'
-result_once (Err b) P P' Q Q' One ok err q q' = err b q q'
-
-option_once : {A : Type 0} (o : Option A) (P P' : Type 0) (Q Q' : A → Type 0) (One : Type 0)
-    → (P → P' → One) → ((a : A) → Q a → Q' a → One) → MatchOption o P Q → MatchOption o P' Q' → One
-option_once None P P' Q Q' One none some p p' = none p p'
-option_once (Some a) P P' Q Q' One none some q q' = some a q q'
 
 network_once : (bytes : List ℕ) (s t : ℕ) (one other : List ℕ) → AnswersNetwork bytes s one → AnswersNetwork bytes t other → AreOne s t one other
 network_once bytes s t one other =
@@ -96,6 +82,10 @@ files_once rules contents (friction words) s t one other = friction_once words (
 files_once rules contents (design files) s t one other = project_once rules (held_by contents files) s t one other
 files_once rules contents (make n) s t one other = made_once (made n) s t one other
 files_once rules contents (check files text) s t one other = check_once rules (held_by contents files) (contents text) s t one other
+files_once rules contents (certify network) s t one other = certify_once (contents network) s t one other
+files_once rules contents (verify files) s t one other =
+    verify_once (contents files.network) (contents files.certificate) (option_map contents files.design) s t one other
+files_once rules contents (takeoff files) s t one other = takeoff_once (contents files.project) (contents files.design) s t one other
 
 -- one text is one text of any command
 one_text : (command : Option Command) (one other : List ℕ) → one ≡ other → AreOneText command one other
@@ -106,6 +96,9 @@ one_text (Some (friction words)) one other same = same
 one_text (Some (design files)) one other same = same
 one_text (Some (check files text)) one other same = same
 one_text (Some (make n)) one other same = same
+one_text (Some (certify network)) one other same = same
+one_text (Some (verify files)) one other same = same
+one_text (Some (takeoff files)) one other same = same
 
 says_one : (command : Option Command) (status : ℕ) (said : List ℕ) (s t : ℕ) (one other : List ℕ) → Says status said s one → Says status said t other
     → (s ≡ t) × AreOneText command one other

@@ -11,12 +11,14 @@ use Rattle.duct_cli.specs.declared.status.TheConstants.{REFUSED}
 use Rattle.duct_cli.specs.declared.designing.Refusal.{Refusal}
 use Rattle.duct_cli.specs.declared.designing.Unread.{Unread}
 use Rattle.duct_cli.specs.declared.designing.Unread.TheVariants as unread
-use Rattle.duct_cli.specs.Answer.{Says, AnswersCheck, AnswersDesign, AnswersProject, IsRefusalLine}
+use Rattle.duct_cli.specs.Answer.{AnswersCheck, AnswersDesign, AnswersProject, IsRefusalLine}
+use Rattle.duct_cli.specs.Says.{Says}
 use Rattle.duct_cli.specs.Checking.{checking, verdict_line, verdict_status}
-use Rattle.duct_cli.specs.Commands.{DesignFiles, design, check, names_of}
+use Rattle.command_words.specs.Commands.{DesignFiles, design, check, names_of}
 use Rattle.duct_cli.specs.DesignBytes.{bytes_at}
-use Rattle.duct_cli.specs.Designing.{◌>>=◌, Rules, Yields, designing, held_by}
-use Rattle.duct_cli.specs.RefusalText.{refusal_line}
+use Rattle.duct_units.specs.Results.{◌>>=◌}
+use Rattle.duct_cli.specs.Designing.{Rules, Yields, designing, held_by}
+use Rattle.command_words.specs.RefusalText.{refusal_line}
 
 -- the bytes of the files, by their places in the order of the words, are what the named files hold
 in_order : (contents : List ℕ → List ℕ) (project sizes rates fittings fans : List ℕ) (back : Option (List ℕ)) → (

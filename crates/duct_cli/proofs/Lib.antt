@@ -1,6 +1,10 @@
 pub mod TakingLaws
 pub mod ReplyLaws
 pub mod RunLaws
+pub mod Once
+pub mod CertifyingLaws
+pub mod SectionLengths
+pub mod CertifyingOnce
+pub mod TakingOffOnce
 pub mod AnswerLaws
 pub mod DesignLaws
-pub mod ArgumentLaws

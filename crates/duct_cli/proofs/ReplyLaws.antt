@@ -5,19 +5,20 @@ use Rattle.duct_units.specs.declared.fault.NoMemory.{NoMemory}
 use Rattle.duct_ports.specs.Reading.{Contents}
 use Rattle.duct_units.specs.declared.fault.Reason.TheVariants.{TooLong}
 use Rattle.duct_units.specs.Rules.{file_fault}
-use Rattle.duct_cli.specs.Answer.{AnswersCommand, AnswersFiles, Says}
+use Rattle.duct_cli.specs.Answer.{AnswersCommand, AnswersFiles}
+use Rattle.duct_cli.specs.Says.{Says}
 use Rattle.duct_cli.specs.Designing.{Rules}
-use Rattle.duct_cli.specs.RefusalText.{refusal_line}
+use Rattle.command_words.specs.RefusalText.{refusal_line}
 use Rattle.duct_cli.specs.Reply.{IsCommandReply}
 use Rattle.duct_cli.specs.Taking.{AreWhole, AsksOn, first_too_long, names_seen}
-use Rattle.duct_cli.specs.Commands.{Command, NamedFile, files_of, names_of}
-use Rattle.duct_cli.specs.WordsSeen.{file_seen}
+use Rattle.command_words.specs.Commands.{Command, NamedFile, files_of, names_of}
+use Rattle.command_words.specs.WordsSeen.{file_seen}
 use Rattle.duct_cli.specs.declared.answers.Answer.{Answer}
 use Rattle.duct_cli.specs.declared.reply.Reply.{Reply}
 use Rattle.duct_cli.specs.declared.reply.Reply.TheVariants as reply
 use Rattle.duct_cli.specs.declared.status.TheConstants.{READ_FAULT, REFUSED, REFUSED_WORDS}
-use Rattle.duct_cli.specs.declared.words.FileKind.{FileKind}
-use Rattle.duct_cli.specs.declared.words.FileWord.{FileWord}
+use Rattle.command_words.specs.declared.words.FileKind.{FileKind}
+use Rattle.command_words.specs.declared.words.FileWord.{FileWord}
 
 names_of_files : (words : List FileWord) → names_seen words ≡ map (λ (file : NamedFile). file.name) (map file_seen words)
 names_of_files [] = refl

@@ -4,11 +4,12 @@ use Rattle.std.specs.Io.KnownBytes.{Appends}
 use Rattle.std.specs.Prelude.{MatchOption}
 use Rattle.duct_ports.specs.Reading.{Contents}
 use Rattle.duct_ports.specs.Writing.{AppendsPart}
-use Rattle.duct_cli.specs.Commands.{Command}
-use Rattle.duct_cli.specs.Words.{command_of}
+use Rattle.command_words.specs.Commands.{Command}
+use Rattle.command_words.specs.Words.{command_of}
 use Rattle.duct_cli.specs.Designing.{Rules}
-use Rattle.duct_cli.specs.RefusalText.{words_line, fault_line}
-use Rattle.duct_cli.specs.Answer.{IsAnswer, AnswersCommand, Says}
+use Rattle.command_words.specs.RefusalText.{words_line, fault_line}
+use Rattle.duct_cli.specs.Answer.{IsAnswer, AnswersCommand}
+use Rattle.duct_cli.specs.Says.{Says}
 use Rattle.duct_cli.specs.Reply.{IsReply, IsCommandReply, IsAnswered}
 use Rattle.duct_cli.specs.declared.answers.Answer.{Answer}
 use Rattle.duct_cli.specs.declared.status.TheConstants.{REFUSED_WORDS, READ_FAULT, WRITE_FAULT, OUT_OF_MEMORY}

@@ -1,5 +1,5 @@
 -- The answer to words and files: a status and a text.
-use Rattle.std.specs.Prelude.{◌≡◌, ℕ, ◌⊎◌, List, [], Option, Some, None, MatchOption, MatchResult}
+use Rattle.std.specs.Prelude.{◌≡◌, ℕ, ◌⊎◌, List, [], Option, Some, None, option_map, MatchOption, MatchResult}
 use Rattle.duct_units.specs.declared.fault.Reason.TheVariants.{TooLong}
 use Rattle.duct_units.specs.Rules.{file_fault}
 use Rattle.duct_definitions.specs.declared.design.Design.{Design}
@@ -9,7 +9,7 @@ use Rattle.duct_definitions.specs.Order.{IsBest, NoneMeets}
 use Rattle.duct_definitions.specs.Balance.{IsBalanced}
 use Rattle.duct_definitions.specs.DesignText.{text, listed, none_text}
 use Rattle.duct_cli.specs.declared.status.TheConstants.{FOUND, REFUSED, REFUSED_WORDS, NONE_FOUND}
-use Rattle.duct_cli.specs.declared.words.FileKind.TheVariants.{Network as network_file, Project as project_file, Sizes as sizes_file, Ducts as ducts_file}
+use Rattle.command_words.specs.declared.words.FileKind.TheVariants.{Network as network_file, Project as project_file, Sizes as sizes_file, Ducts as ducts_file}
 use Rattle.file_definitions.specs.Document.{document_of}
 use Rattle.network_file.specs.NetworkFile.{network_of}
 use Rattle.project_file.specs.Raised.{migrating_bytes}
@@ -21,18 +21,17 @@ use Rattle.friction_maker.specs.RowsText.{rows_text}
 use Rattle.design_check.specs.Verdicts.{verdict}
 use Rattle.duct_load.specs.Made.{made}
 use Rattle.duct_load.specs.Summary.{summary}
-use Rattle.duct_cli.specs.RefusalText.{refusal_line, words_line}
+use Rattle.command_words.specs.RefusalText.{refusal_line, words_line}
 use Rattle.duct_cli.specs.declared.designing.Unread.{Unread}
 use Rattle.duct_cli.specs.declared.designing.Unread.TheVariants as unread
 use Rattle.duct_cli.specs.Designing.{Rules, designing, held_by}
+use Rattle.duct_cli.specs.Certifying.{AnswersCertify, AnswersVerify}
 use Rattle.duct_cli.specs.Checking.{checking, verdict_line, verdict_status}
+use Rattle.duct_cli.specs.Says.{Says}
+use Rattle.duct_cli.specs.TakingOff.{AnswersTakeoff}
 use Rattle.duct_cli.specs.Taking.{first_too_long}
-use Rattle.duct_cli.specs.Commands.{Command, DesignFiles, FrictionWords, pick, migrate, friction, design, check, make, files_of}
-use Rattle.duct_cli.specs.Words.{command_of}
-
--- the status is this one, and so is the text
-abbrev pub Says : ℕ → List ℕ → ℕ → List ℕ → Type 0
-Says status words s t = (s ≡ status) × (t ≡ words)
+use Rattle.command_words.specs.Commands.{Command, DesignFiles, FrictionWords, pick, migrate, friction, design, check, make, certify, verify, takeoff, files_of}
+use Rattle.command_words.specs.Words.{command_of}
 
 -- the text of the best design, whose dampers make every path take its fan's pressure; or the text of none with how many
 -- pairs each rule refused, where no design meets the rules
@@ -104,6 +103,10 @@ AnswersFiles rules contents (friction words) status answer = AnswersFriction wor
 AnswersFiles rules contents (design files) status answer = AnswersProject rules (held_by contents files) status answer
 AnswersFiles rules contents (make n) status answer = AnswersMade (made n) status answer
 AnswersFiles rules contents (check files text) status answer = AnswersCheck rules (held_by contents files) (contents text) status answer
+AnswersFiles rules contents (certify network) status answer = AnswersCertify (contents network) status answer
+AnswersFiles rules contents (verify files) status answer =
+    AnswersVerify (contents files.network) (contents files.certificate) (option_map contents files.design) status answer
+AnswersFiles rules contents (takeoff files) status answer = AnswersTakeoff (contents files.project) (contents files.design) status answer
 
 -- the first file that is too long, or else what the command says
 abbrev pub AnswersCommand : Rules → (List ℕ → List ℕ) → Command → ℕ → List ℕ → Type 0
@@ -128,3 +131,6 @@ AreOneText (Some (friction words)) one other = one ≡ other
 AreOneText (Some (design files)) one other = one ≡ other
 AreOneText (Some (check files text)) one other = one ≡ other
 AreOneText (Some (make n)) one other = one ≡ other
+AreOneText (Some (certify network)) one other = one ≡ other
+AreOneText (Some (verify files)) one other = one ≡ other
+AreOneText (Some (takeoff files)) one other = one ≡ other

@@ -11,10 +11,11 @@ use Rattle.design_text.specs.Reading.{reading}
 use Rattle.design_check.specs.declared.verdict.Verdict.{Verdict}
 use Rattle.design_check.specs.declared.verdict.Verdict.TheVariants.{Yes, Name, Pair, Loss, Fan, Head, Damper, Cost}
 use Rattle.duct_cli.specs.declared.status.TheConstants.{FOUND, NONE_FOUND}
-use Rattle.duct_cli.specs.declared.words.FileKind.TheVariants.{Design as text_file}
+use Rattle.command_words.specs.declared.words.FileKind.TheVariants.{Design as text_file}
 use Rattle.duct_cli.specs.declared.designing.Refusal.{Refusal}
-use Rattle.duct_cli.specs.Commands.{DesignFiles}
-use Rattle.duct_cli.specs.Designing.{◌>>=◌, Rules, data_of, joined, of_file}
+use Rattle.command_words.specs.Commands.{DesignFiles}
+use Rattle.duct_units.specs.Results.{◌>>=◌}
+use Rattle.duct_cli.specs.Designing.{Rules, data_of, joined, of_file}
 
 -- the network of the files and the fields of the text, or the first refusal
 abbrev pub checking : Rules → DesignFiles → List ℕ → Result (Network × Listed) Refusal

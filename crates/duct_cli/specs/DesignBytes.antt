@@ -1,7 +1,7 @@
 -- The bytes of the files of a design, wherever they lie in memory.
 use Rattle.std.specs.Prelude.{ℕ, List, [], option_map, slice_get, unwrap_or}
 use Rattle.duct_cli.specs.declared.designing.DesignBytes.{DesignBytes}
-use Rattle.duct_cli.specs.Commands.{DesignFiles}
+use Rattle.command_words.specs.Commands.{DesignFiles}
 
 -- the bytes
 abbrev pub bytes_seen : DesignBytes → DesignFiles

@@ -3,6 +3,7 @@
 --   designing rules bytes               the network with how many pairs each rule refused, or the first refusal
 use Rattle.std.specs.Prelude.{◌≡◌, ℕ, List, [], map, Option, Some, None, option_map, Result, Ok, Err}
 use Rattle.std.specs.Option.{option_map_or}
+use Rattle.duct_units.specs.Results.{◌>>=◌}
 use Rattle.duct_units.specs.declared.fault.Fault.{Fault}
 use Rattle.duct_units.specs.declared.side.Side.TheVariants.{Return}
 use Rattle.duct_definitions.specs.declared.design.NetFan.{NetFan}
@@ -18,19 +19,13 @@ use Rattle.project_file.specs.ProjectFile.{project_of}
 use Rattle.design_rules.specs.Meanings.{Meaning}
 use Rattle.net_build.specs.Built.{built}
 use Rattle.net_build.specs.Fans.{offered}
-use Rattle.duct_cli.specs.declared.words.FileKind.{FileKind}
-use Rattle.duct_cli.specs.declared.words.FileKind.TheVariants.{Project as project_file, Sizes, Friction, Fittings, Fans, ReturnFans}
+use Rattle.command_words.specs.declared.words.FileKind.{FileKind}
+use Rattle.command_words.specs.declared.words.FileKind.TheVariants.{Project as project_file, Sizes, Friction, Fittings, Fans, ReturnFans}
 use Rattle.duct_cli.specs.declared.designing.DesignData.{DesignData}
 use Rattle.duct_cli.specs.declared.designing.Refusal.{Refusal}
 use Rattle.duct_cli.specs.declared.designing.Unread.{Unread}
 use Rattle.duct_cli.specs.declared.designing.Unread.TheVariants as unread
-use Rattle.duct_cli.specs.Commands.{DesignFiles}
-
-infixl 10 ◌>>=◌
--- what follows from the value, where there is one
-abbrev pub ◌>>=◌ : {A B : Type 0} → Result A Refusal → (A → Result B Refusal) → Result B Refusal
-Ok value >>= f = f value
-Err refusal >>= f = Err refusal
+use Rattle.command_words.specs.Commands.{DesignFiles}
 
 -- what a file says, or its refusal
 abbrev pub of_file : {A : Type 0} → FileKind → Result A Fault → Result A Refusal

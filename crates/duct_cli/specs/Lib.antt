@@ -1,13 +1,10 @@
-pub mod Commands
-pub mod Arguments
-pub mod ArgumentsSeen
-pub mod Words
-pub mod WordsSeen
 pub mod Taking
-pub mod RefusalText
 pub mod Designing
 pub mod DesignBytes
+pub mod Says
 pub mod Checking
+pub mod Certifying
+pub mod TakingOff
 pub mod Answer
 pub mod Reply
 pub mod Run

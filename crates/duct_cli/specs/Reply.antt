@@ -6,8 +6,8 @@ use Rattle.duct_cli.specs.declared.reply.Reply.TheVariants as reply
 use Rattle.duct_cli.specs.declared.status.TheConstants.{READ_FAULT, REFUSED_WORDS}
 use Rattle.duct_cli.specs.Answer.{AnswersCommand}
 use Rattle.duct_cli.specs.Designing.{Rules}
-use Rattle.duct_cli.specs.Commands.{Command}
-use Rattle.duct_cli.specs.Words.{command_of}
+use Rattle.command_words.specs.Commands.{Command}
+use Rattle.command_words.specs.Words.{command_of}
 
 -- the answer of a command, with a status that neither a fault nor refused words have
 pub record IsAnswered (rules : Rules) (command : Command) (held : Option Contents) (status : ℕ) (text : List ℕ) : Type 0 where

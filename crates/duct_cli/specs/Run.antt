@@ -5,8 +5,8 @@ use Rattle.duct_ports.specs.Reading.{Contents}
 use Rattle.duct_ports.specs.Writing.{AppendsPart}
 use Rattle.duct_cli.specs.Answer.{IsAnswer}
 use Rattle.duct_cli.specs.Designing.{Rules}
-use Rattle.duct_cli.specs.RefusalText.{fault_line}
-use Rattle.duct_cli.specs.Words.{named_files}
+use Rattle.command_words.specs.RefusalText.{fault_line}
+use Rattle.command_words.specs.Words.{named_files}
 
 -- the names asked for are the first of the named files, in the order in which they are taken
 abbrev pub AsksFor : List (List ℕ) → List (List ℕ) → Type 0

@@ -7,10 +7,10 @@ use Rattle.duct_ports.specs.Reading.{Contents}
 use Rattle.duct_ports.specs.declared.read.TheConstants.{MAX_FILE_BYTES}
 use Rattle.duct_cli.specs.declared.taking.Taken.{Taken}
 use Rattle.duct_cli.specs.declared.taking.Taken.TheVariants as taken
-use Rattle.duct_cli.specs.declared.words.FileKind.{FileKind}
-use Rattle.duct_cli.specs.declared.words.FileWord.{FileWord}
-use Rattle.duct_cli.specs.Commands.{NamedFile}
-use Rattle.duct_cli.specs.WordsSeen.{file_seen}
+use Rattle.command_words.specs.declared.words.FileKind.{FileKind}
+use Rattle.command_words.specs.declared.words.FileWord.{FileWord}
+use Rattle.command_words.specs.Commands.{NamedFile}
+use Rattle.command_words.specs.WordsSeen.{file_seen}
 
 -- the names of the files
 abbrev pub names_seen : List FileWord → List (List ℕ)

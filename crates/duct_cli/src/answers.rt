@@ -1,5 +1,5 @@
 //! What each command answers for the bytes of its files.
-ghost use Rattle.std.specs.Prelude.{◌≡◌, ◌≢◌, ℕ, ◌<◌, ◌≤◌, length, map, slice_index, IfOk};
+ghost use Rattle.std.specs.Prelude.{◌≡◌, ◌≢◌, ℕ, ◌<◌, ◌≤◌, length, map, option_map, slice_get, slice_index, IfOk};
 ghost use Rattle.duct_definitions.specs.Designs.{Meets};
 ghost use Rattle.duct_definitions.specs.Balance.{IsBalanced};
 ghost use Rattle.duct_definitions.specs.DesignText.{text, listed};
@@ -8,16 +8,17 @@ ghost use Rattle.duct_ports.specs.Reading.{Contents};
 ghost use Rattle.duct_cli.specs.Answer.{AnswersDesign, AnswersProject, IsRefusalLine, AnswersDucts, AnswersFiles, AnswersFriction, AnswersMade, AnswersMigration, AnswersNetwork};
 ghost use Rattle.duct_cli.specs.Designing.{rules_of};
 ghost use Rattle.duct_cli.specs.DesignBytes.{bytes_at};
-ghost use Rattle.duct_cli.specs.RefusalText.{refusal_line};
-ghost use Rattle.duct_cli.specs.Commands.{files_of, names_of, IsInBounds, IsAirInBounds, IsSectionCount};
-ghost use Rattle.duct_cli.specs.WordsSeen.{command_seen, friction_seen};
+ghost use Rattle.command_words.specs.RefusalText.{refusal_line};
+ghost use Rattle.command_words.specs.Commands.{files_of, names_of, IsInBounds, IsAirInBounds, IsSectionCount};
+ghost use Rattle.command_words.specs.WordsSeen.{command_seen, friction_seen};
 
+use crate::certifying::{answer_certify, answer_verify};
 use crate::checking::answer_check;
 use crate::crew::Crew;
 use crate::designing::{DesignBytes, Unread, network_of_files};
-use crate::refusal_text::refusal_text;
 use crate::status::{FOUND, NONE_FOUND, READ_FAULT, REFUSED, REFUSED_WORDS};
-use crate::words::{Command, FileKind, FrictionWords};
+use crate::taking_off::answer_takeoff;
+use command_words::{Command, FileKind, FrictionWords, refusal_text};
 use damper_balance::balance;
 use design_laws::dampers_balance_every_path;
 use design_rules::{MAX_RULES, SizeRule};
@@ -69,10 +70,30 @@ pub fn answer_command<T: Threads + Sync, G: Gate, R: SizeRule>(
         }
         Command::Design(_) => answer_project(alloc, crew, bytes, rules),
         Command::Make(n) => answer_made(alloc, crew, *n),
+        Command::Certify(_) => answer_certify(alloc, crew, bytes[0].as_slice()),
+        Command::Verify(_) => {
+            answer_verify(
+                alloc,
+                bytes[0].as_slice(),
+                bytes[1].as_slice(),
+                third(bytes),
+            )
+        }
+        Command::Takeoff(_) => answer_takeoff(alloc, bytes[0].as_slice(), bytes[1].as_slice()),
         Command::Check(..) => {
             let last = bytes.len() - 1;
             answer_check(alloc, &bytes[..last], bytes[last].as_slice(), rules)
         }
+    }
+}
+
+/// The bytes of the third file, where there is one.
+fn third(files: &[List<u8>]) -> Option<&[u8]>
+    ensures { option_map (λ b. b.now) result ≡ slice_get files.now 2 }
+{
+    match files.get(2) {
+        Some(bytes) => Some(bytes.as_slice()),
+        None => None,
     }
 }
 

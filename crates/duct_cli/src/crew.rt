@@ -1,15 +1,9 @@
 //! Who condenses a tree.
 ghost use Rattle.std.specs.Prelude.{◌<◌, ◌≤◌};
-ghost use Rattle.duct_cli.specs.declared.crew.TheConstants.{MAX_WORKERS};
+ghost use Rattle.command_words.specs.declared.workers.TheConstants.{MAX_WORKERS};
 
 use duct_ports::Gate;
 use std::thread::Threads;
-
-/// The most workers.
-pub const MAX_WORKERS: u32 = 32;
-
-/// How many workers condense where the words name none.
-pub const DEFAULT_WORKERS: u32 = 4;
 
 /// Threads of a runtime, each of which enters a gate before it condenses a section.
 #[derive(Drop)]

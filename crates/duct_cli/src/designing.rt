@@ -9,7 +9,7 @@ ghost use Rattle.duct_cli.specs.Checking.{checking};
 ghost use Rattle.duct_cli.specs.Designing.{Yields, data_of, designing, joined, of_file, return_fans_of, rules_of, with_return_fans};
 ghost use Rattle.duct_cli.specs.DesignBytes.{bytes_seen, bytes_at};
 
-use crate::words::{DesignWords, FileKind};
+use command_words::{DesignWords, FileKind};
 use design_rules::{MAX_RULES, SizeRule};
 use design_text::read as read_design;
 use duct_definitions::Listed;

@@ -3,7 +3,7 @@ ghost use Rattle.std.specs.Prelude.{◌≡◌, ℕ, List};
 ghost use Rattle.duct_cli.specs.declared.status.TheConstants.{FOUND, REFUSED, REFUSED_WORDS, NONE_FOUND, READ_FAULT, WRITE_FAULT, OUT_OF_MEMORY, NO_WORDS};
 ghost use Rattle.duct_cli.specs.Answer.{AreOneText, IsAnswer};
 ghost use Rattle.duct_cli.specs.Designing.{Rules};
-ghost use Rattle.duct_cli.specs.Words.{command_of};
+ghost use Rattle.command_words.specs.Words.{command_of};
 
 /// The same words over the same files have one answer: one status, and one text, or texts of one document where a project
 /// is migrated.

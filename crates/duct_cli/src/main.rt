@@ -5,7 +5,7 @@
 #![tactic(auto)]
 
 mod answers;
-mod arguments;
+mod certifying;
 mod checking;
 mod crew;
 mod designing;
@@ -13,16 +13,15 @@ mod designing;
 mod gate_tests;
 mod laws;
 mod program;
-mod refusal_text;
 mod reply;
 #[cfg(test)]
 mod rule_tests;
 mod run;
 mod status;
 mod taking;
+mod taking_off;
 #[cfg(test)]
 mod tests;
-mod words;
 
 use design_rules::{HeightRule, PresetRule, SizeRule, TaperRule, VelocityRule};
 use duct_ports::{DiskFiles, OpenGate, StdSink};

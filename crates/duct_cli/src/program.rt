@@ -4,7 +4,7 @@ ghost use Rattle.duct_ports.specs.Faults.{Rose};
 ghost use Rattle.std.specs.Io.KnownBytes.{Keeps};
 ghost use Rattle.duct_cli.specs.Designing.{rules_of};
 ghost use Rattle.duct_cli.specs.Run.{Answers};
-ghost use Rattle.duct_cli.specs.Words.{command_of};
+ghost use Rattle.command_words.specs.Words.{command_of};
 
 use crate::run::run;
 use crate::status::{NO_WORDS, OUT_OF_MEMORY, READ_FAULT, REFUSED_WORDS, WRITE_FAULT};

@@ -4,13 +4,13 @@ ghost use Rattle.std.specs.Io.KnownBytes.{Appends, Keeps};
 ghost use Rattle.duct_ports.specs.Faults.{Rose};
 ghost use Rattle.duct_ports.specs.Writing.{AppendsPart};
 ghost use Rattle.duct_cli.specs.Designing.{rules_of};
-ghost use Rattle.duct_cli.specs.RefusalText.{words_line, fault_line};
+ghost use Rattle.command_words.specs.RefusalText.{words_line, fault_line};
 ghost use Rattle.duct_cli.specs.Run.{AsksFor, Answers, AnswersPart};
-ghost use Rattle.duct_cli.specs.Words.{command_of};
+ghost use Rattle.command_words.specs.Words.{command_of};
 
-use crate::refusal_text::{fault_text, words_text};
 use crate::reply::{Reply, reply_to};
 use crate::status::{OUT_OF_MEMORY, READ_FAULT, REFUSED_WORDS, WRITE_FAULT};
+use command_words::{fault_text, words_text};
 use design_rules::{MAX_RULES, SizeRule};
 use duct_ports::{Files, Gate, Sink, write_all};
 use std::alloc::Global;

@@ -3,7 +3,7 @@ ghost use Rattle.std.specs.Prelude.{◌≡◌, ◌+◌, ◌≤◌, ◌++◌, len
 ghost use Rattle.duct_ports.specs.Faults.{Rose};
 ghost use Rattle.duct_cli.specs.Taking.{IsTaken, AsksOn, names_seen};
 
-use crate::words::{FileKind, FileWord};
+use command_words::{FileKind, FileWord};
 use duct_ports::{Files, MAX_NAMES, TakeError, read_all};
 use duct_units::List;
 use std::alloc::Global;

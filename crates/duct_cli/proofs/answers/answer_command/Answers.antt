@@ -3,7 +3,7 @@ use Rattle.std.specs.Prelude.{IfOk}
 use Rattle.duct_cli.specs.Answer.{AnswersCheck}
 use Rattle.duct_cli.specs.DesignBytes.{bytes_at}
 use Rattle.duct_cli.specs.Designing.{rules_of}
-use Rattle.duct_cli.specs.WordsSeen.{design_seen}
+use Rattle.command_words.specs.WordsSeen.{design_seen}
 use Rattle.duct_cli.proofs.DesignLaws.{check_answers}
 use Rattle.duct_cli.proofs.answers.answer_command.Goals as goal
 

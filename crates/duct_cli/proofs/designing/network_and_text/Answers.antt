@@ -1,8 +1,9 @@
 use Rattle.std.proofs.Common.{Ok}
 use Rattle.duct_definitions.specs.declared.listed.Listed.{Listed}
 use Rattle.design_text.specs.Reading.{reading}
-use Rattle.duct_cli.specs.declared.words.FileKind.TheVariants.{Design as text_file}
-use Rattle.duct_cli.specs.Designing.{◌>>=◌, data_of, joined, of_file, rules_of}
+use Rattle.command_words.specs.declared.words.FileKind.TheVariants.{Design as text_file}
+use Rattle.duct_units.specs.Results.{◌>>=◌}
+use Rattle.duct_cli.specs.Designing.{data_of, joined, of_file, rules_of}
 use Rattle.duct_cli.specs.DesignBytes.{bytes_seen}
 use Rattle.duct_cli.proofs.DesignLaws.{follows, handed_on, refused_first}
 use Rattle.duct_cli.proofs.designing.network_and_text.Goals as goal

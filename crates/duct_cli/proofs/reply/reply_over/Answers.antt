@@ -3,7 +3,7 @@ use Rattle.duct_ports.specs.Faults.{Rose}
 use Rattle.duct_cli.specs.Designing.{rules_of}
 use Rattle.duct_cli.specs.Taking.{AreWhole}
 use Rattle.duct_cli.proofs.ReplyLaws.{AsksOn-command, whole_reply}
-use Rattle.duct_cli.specs.WordsSeen.{command_seen}
+use Rattle.command_words.specs.WordsSeen.{command_seen}
 use Rattle.duct_cli.proofs.reply.reply_over.Goals as goal
 
 pub returns-in-Whole-clause-reply : goal.returns-in-Whole-clause-reply

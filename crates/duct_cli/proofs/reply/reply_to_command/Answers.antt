@@ -1,5 +1,5 @@
 use Rattle.std.proofs.Common.{refl, ap, ◌∙◌, map}
-use Rattle.duct_cli.specs.WordsSeen.{file_seen}
+use Rattle.command_words.specs.WordsSeen.{file_seen}
 use Rattle.duct_cli.proofs.ReplyLaws.{AsksOn-none}
 use Rattle.duct_cli.proofs.reply.reply_to_command.Goals as goal
 

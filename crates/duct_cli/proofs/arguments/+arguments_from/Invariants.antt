@@ -1,5 +1,0 @@
-use Rattle.std.proofs.Common.{length}
-use Rattle.duct_cli.proofs.arguments.+arguments_from.Given as goal
-
-abbrev pub decreases-arguments_from : goal.decreases-arguments_from
-decreases-arguments_from l = length l.words.now
