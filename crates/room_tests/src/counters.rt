@@ -4,15 +4,17 @@ ghost use Rattle.duct_definitions.specs.Tree.{section_count, children, is_leaf};
 ghost use Rattle.schedule_core.specs.Schedule.{is_in};
 ghost use Rattle.contract_join.specs.Outcomes.{IsOutcomeOf};
 ghost use Rattle.child_counter.specs.Public.{Belongs, IsNew};
+ghost use Rattle.tree_contract.specs.Turns.{HasTurn, KeepsTurn};
 
-use crate::condensing::came_of;
 use child_counter::{Closed, Counters, Pass, Turn};
+use contract_join::Outcome;
 use duct_units::List;
 use net_model::Network;
 use network_file::read_network;
 use std::alloc::Global;
 use std::marker::Model;
 use std::test::Fail;
+use tree_contract::outcome_of;
 
 /// Sections 0 to 6: 1 and 2 beyond 0, 3 and 4 beyond 2, and the return sections 5 and 6 at the fan.
 const NETWORK: &str = "format = 1
@@ -241,6 +243,26 @@ fn finish<'n>(
     let outcome = came_of(alloc, counters, net, &mut worker.pass, &mut turn, refused);
     worker.turn = counters.finish(&mut worker.pass, turn, outcome);
     Ok(())
+}
+
+/// What comes of the turn's section, which finds no memory where it is `refused`.
+fn came_of<'n>(
+    alloc: Global,
+    counters: &Counters<'n>,
+    net: &'n Network,
+    pass: &mut Pass<'n>,
+    turn: &mut Turn,
+    refused: Option<u32>,
+) -> Outcome<'n>
+    requires network { counters.now.net ≡ net.now }
+    requires turn { HasTurn counters.now turn.old pass.old }
+    ensures fits { IsOutcomeOf net.now turn.old result }
+    ensures turn { KeepsTurn counters.now turn.old pass.old turn.new pass.new }
+{
+    if refused == Some(turn.section()) {
+        return Outcome::NoMemory(turn.section());
+    }
+    outcome_of(alloc, counters, net, pass, turn)
 }
 
 /// Claims every leaf, each of which is claimed already.

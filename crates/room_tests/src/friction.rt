@@ -2,8 +2,9 @@
 ghost use Rattle.std.specs.Prelude.{◌≡◌, length};
 
 use crate::texts::file;
+use duct_definitions::{MAX_FLOW, MAX_LENGTH};
 use duct_units::Name;
-use friction_table::{FlowRate, Friction, MAX_FLOW, MAX_LENGTH, MIN_FLOW, read_friction};
+use friction_table::{FlowRate, Friction, MIN_FLOW, read_friction};
 use size_catalogue::{Sizes, read_sizes};
 use std::alloc::Global;
 use std::test::Fail;

@@ -7,8 +7,6 @@
 #[cfg(test)]
 mod certificates;
 #[cfg(test)]
-mod condensing;
-#[cfg(test)]
 mod counters;
 #[cfg(test)]
 mod fans;
@@ -20,6 +18,8 @@ mod flows;
 mod friction;
 #[cfg(test)]
 mod fronts;
+#[cfg(test)]
+mod hostile_rules;
 #[cfg(test)]
 mod made_friction;
 #[cfg(test)]

@@ -1,10 +1,9 @@
 //! Which rates a file of ducts makes, and that the friction file of them reads back as them.
 
 use crate::texts::file;
+use duct_definitions::{MAX_DENSITY, MIN_DENSITY};
 use duct_units::List;
-use friction_maker::{
-    MAX_DENSITY, MAX_VISCOSITY, MIN_DENSITY, MIN_VISCOSITY, MadeRow, make_friction, rows_text,
-};
+use friction_maker::{MAX_VISCOSITY, MIN_VISCOSITY, MadeRow, make_friction, rows_text};
 use friction_table::read_friction;
 use size_catalogue::{Sizes, read_sizes};
 use std::alloc::Global;
