@@ -129,22 +129,21 @@ def is_sound_total(roots, fronts, fans, total):
     return True
 
 
-def main():
-    name, sections, roots, fans = network(pathlib.Path(sys.argv[1]).read_text(encoding="utf-8"))
+def answer(network_text, certificate_text):
+    """The status and the line."""
+    name, sections, roots, fans = network(network_text)
     try:
-        total, fronts = certificate(name, sections, pathlib.Path(sys.argv[2]).read_bytes())
+        total, fronts = certificate(name, sections, certificate_text)
     except BadLine as bad:
-        print(f"refused certificate line {bad} form")
-        return 1
+        return 1, f"refused certificate line {bad} form"
     cap = max((pressure for pressure, _ in fans), default=0)
     for s, section in enumerate(sections):
         if not is_sound(sections, fronts, s, cap):
-            print(f"certificate no section {section['name']}")
-            return 3
-    sound = is_sound_total(roots, fronts, fans, total)
-    print("certificate yes" if sound else "certificate no total")
-    return 0 if sound else 3
+            return 3, f"certificate no section {section['name']}"
+    return (0, "certificate yes") if is_sound_total(roots, fronts, fans, total) else (3, "certificate no total")
 
 
 if __name__ == "__main__":
-    sys.exit(main())
+    status, line = answer(pathlib.Path(sys.argv[1]).read_text(encoding="utf-8"), pathlib.Path(sys.argv[2]).read_bytes())
+    print(line)
+    sys.exit(status)
