@@ -17,9 +17,9 @@ use std::thread::Threads;
 use t_method::best_choice;
 use tree_contract::{Fronted, contract_all};
 
-/// The certificate with the exact fronts of the network and the cost of its best design, which is sound. 1 to 32 workers
-/// condense at once, each of whom enters the gate before it condenses a section; the certificate is the same whichever of
-/// them condenses what.
+/// The certificate with the exact fronts of the network and the cost of its best design, which is sound. 1 to 32
+/// workers condense at once, each of whom enters the gate before it condenses a section; the certificate is the same
+/// whichever of them condenses what.
 pub fn certify<R: Threads + Sync, G: Gate>(
     rt: &R,
     alloc: Global,

@@ -1,5 +1,5 @@
 -- Bytes are the text of one certificate, and bytes that are none have one first bad line.
-use Rattle.std.proofs.Common.{◌≡◌, ℕ, suc, ◌+◌, ◌<◌, ◌^◌, inl, inr, List, [], ◌∷◌, ◌++◌, length, Option, Some, None, refl, sym, ap, ◌∙◌, arith, append_assoc}
+use Rattle.std.proofs.Common.{◌≡◌, ℕ, suc, ◌<◌, ◌^◌, inl, inr, List, [], ◌∷◌, ◌++◌, length, Option, Some, None, refl, sym, ap, ◌∙◌, arith, append_assoc}
 use Rattle.std.specs.Prelude.{codes, decimal, IfSome}
 use Rattle.std.specs.List.{AllByRecursion, flat_map}
 use Rattle.std.proofs.lemmas.Bool.{cases_lt}
@@ -15,7 +15,7 @@ use Rattle.pareto_front.specs.declared.point.Point.{Point}
 use Rattle.pareto_front.specs.declared.point.TheConstants.{COST_LIMIT}
 use Rattle.front_certificate.specs.Certificates.{Certificate}
 use Rattle.front_certificate.specs.CertificateText.{heading, total_line, front_line}
-use Rattle.front_certificate.specs.Reading.{IsEnded, IsPointInRange, point_text, IsStatable, IsTextOf, IsFirstBad, IsRefusal, Begins}
+use Rattle.front_certificate.specs.Reading.{IsEnded, IsPointInRange, point_text, IsStatable, IsTextOf, IsFirstBad, IsRefusal}
 use Rattle.front_certificate.proofs.WordReading.{run-unique}
 use Rattle.front_certificate.proofs.PointReading.{points_text, points_text-ended, line-is, point-parts, cancel}
 use Rattle.front_certificate.proofs.LineReading.{begins-before, none-line, some-line, text-begins}

@@ -19,8 +19,8 @@ pub fn sound_certificate_bounds_every_design()
     ensures { (net : Network) → IsTree net.tree → (c : Certificate) → IsSound net c → NoneCostsLess net c.total }
 {}
 
-/// Fronts that give the least prices are sound in every section. With them the least cost of fans and budgets is a sound
-/// total, and where no fans with any budget have a cost, so is none.
+/// Fronts that give the least prices are sound in every section. With them the least cost of fans and budgets is a
+/// sound total, and where no fans with any budget have a cost, so is none.
 pub fn exact_fronts_are_sound()
     ensures sections { (net : Network) → IsTree net.tree → (fronts : List (List Point))
         → AreExactFronts net fronts → AreSoundBefore net fronts (section_count net.tree) }

@@ -1,6 +1,5 @@
 //! A certificate read line by line.
-ghost use Rattle.std.specs.Prelude.{◌≡◌, ◌≤◌, suc, map, IfOk, IfErr, option_map};
-ghost use Rattle.duct_units.specs.Lines.{line};
+ghost use Rattle.std.specs.Prelude.{◌≡◌, ◌≤◌, suc, IfOk, IfErr, option_map};
 ghost use Rattle.duct_units.specs.Rules.{line_fault};
 ghost use Rattle.duct_units.specs.declared.fault.Reason.TheVariants.{Form};
 ghost use Rattle.duct_units.specs.declared.fault.ReadError.TheVariants.{Refused};
@@ -10,11 +9,11 @@ use crate::certificate::Certificate;
 use crate::counting::front_count;
 use crate::points::front_at;
 use crate::words::{behind, number_at};
-use duct_units::{Fault, List, NoMemory, ReadError, Reason};
+use duct_units::{Fault, ReadError, Reason};
 use net_model::Network;
 use pareto_front::COST_LIMIT;
 use std::alloc::Global;
-use text_lines::Text;
+use text_lines::one_line;
 
 /// The certificate of the network whose text these bytes are, or the fault of the first bad line: the bytes begin with
 /// the lines before it of some certificate, and with no further line of one.
@@ -26,12 +25,12 @@ pub fn read_certificate(
     ensures ok { IfOk result (IsTextOf net.now bytes.now) }
     ensures err { IfErr result (IsRefusal net.now bytes.now) }
 {
-    let form = line_of(alloc, b"certificate", &[b"1"])?;
+    let form = one_line(alloc, b"certificate", &[b"1"])?;
     let Some(rest) = behind(bytes, form.as_slice()) else {
         return Err(bad_line(0));
     };
     let name = net.name();
-    let project = line_of(alloc, b"project", &[name.bytes()])?;
+    let project = one_line(alloc, b"project", &[name.bytes()])?;
     let Some(rest) = behind(rest, project.as_slice()) else {
         return Err(bad_line(1));
     };
@@ -47,7 +46,7 @@ pub fn read_certificate(
         c.push(front)?;
         rest = after;
     }
-    let end = line_of(alloc, b"end", &[])?;
+    let end = one_line(alloc, b"end", &[])?;
     let Some(rest) = behind(rest, end.as_slice()) else {
         return Err(bad_line(count + 3));
     };
@@ -69,15 +68,6 @@ fn total_at(bytes: &[u8]) -> Option<(Option<u64>, &[u8])>
     let (total, rest) = number_at(rest, COST_LIMIT - 1)?;
     let rest = behind(rest, b"\n")?;
     Some((Some(total), rest))
-}
-
-/// A line of words.
-fn line_of(alloc: Global, first: &[u8], words: &[&[u8]]) -> Result<List<u8>, NoMemory>
-    ensures { IfOk result (λ text. text ≡ line first.now (map (λ word. word.now) words.now)) }
-{
-    let mut text = Text::new(alloc);
-    text.line(first, words)?;
-    Ok(text.into_list())
 }
 
 /// The fault of a line behind so many good ones.

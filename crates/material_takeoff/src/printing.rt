@@ -8,7 +8,7 @@ use crate::record::{SizeUse, TakeOff};
 use duct_definitions::{Listed, ListedFan, ListedSection};
 use duct_units::{List, Name, NoMemory};
 use std::alloc::Global;
-use text_lines::{Text, number};
+use text_lines::{Text, number, one_line};
 
 /// The text of a material list, with the listed prices and costs.
 pub fn print_takeoff(
@@ -34,9 +34,7 @@ pub fn print_takeoff(
 pub fn print_no_cost(alloc: Global) -> Result<List<u8>, NoMemory>
     ensures { IfOk result (λ text. text ≡ no_cost_text) }
 {
-    let mut text = Text::new(alloc);
-    text.line(b"takeoff", &[b"no", b"cost"])?;
-    Ok(text.into_list())
+    one_line(alloc, b"takeoff", &[b"no", b"cost"])
 }
 
 fn add_sizes(alloc: Global, text: &mut Text, sizes: &[SizeUse]) -> Result<(), NoMemory>

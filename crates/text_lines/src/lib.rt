@@ -59,6 +59,15 @@ impl Text {
     }
 }
 
+/// The bytes of one line of words parted by one space.
+pub fn one_line(alloc: Global, first: &[u8], words: &[&[u8]]) -> Result<List<u8>, NoMemory>
+    ensures { IfOk result (λ bytes. bytes ≡ line first.now (map (λ word. word.now) words.now)) }
+{
+    let mut text = Text::new(alloc);
+    text.line(first, words)?;
+    Ok(text.into_list())
+}
+
 fn add_line(bytes: &mut Vec<u8>, first: &[u8], words: &[&[u8]]) -> Result<(), NoMemory>
     ensures { OnOk result (bytes.new.items ≡ bytes.old.items ++ line first.now (map (λ word. word.now) words.now)) }
 {
