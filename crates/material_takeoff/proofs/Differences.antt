@@ -39,7 +39,3 @@ differs_at_end names listed s so_far ended less = record {
 -- both lists end
 pub agree_all : (names listed : List (List ℕ)) (s : ℕ) → take s names ≡ take s listed → length names ≤ s → length listed ≤ s → names ≡ listed
 agree_all names listed s so_far first second = sym (take_all s names first) ∙ so_far ∙ take_all s listed second
-
--- lists that differ are not the same
-pub not_same : (names listed : List (List ℕ)) (n : ℕ) → IsFirstDifference names listed n → names ≡ listed → ⊥
-not_same names listed n first e = first.differs (ap (λ xs. slice_get xs first.place) e)

@@ -4,4 +4,5 @@ pub mod OneMore
 pub mod Sums
 pub mod Counted
 pub mod Differences
+pub mod OneDifference
 pub mod ListedAt
