@@ -1,11 +1,14 @@
--- The names of a section's sizes have the form of names.
-use Rattle.std.proofs.Common.{◌≡◌, ℕ, List, [], map, Option, Some, None, option_map, IsTrue, refl, ap, ◌∙◌, sym}
+-- The names of a section's sizes: their form, and whether one is among others.
+use Rattle.std.proofs.Common.{◌≡◌, ℕ, ◌+◌, List, [], ◌∷◌, map, true, false, ◌||◌, cond, Option, Some, None, option_map, is_some, IsTrue, refl, ap, ◌∙◌, sym}
 use Rattle.std.specs.Prelude.{slice_get, unwrap_or, option_and_then, codes}
+use Rattle.std.specs.List.{list_any}
+use Rattle.std.specs.Str.{bytes_eq}
 use Rattle.std.proofs.lemmas.Option.{slice_get-map}
 use Rattle.toml.specs.Data.{Data, Members, as_str}
 use Rattle.duct_units.specs.Name.{is_name}
 use Rattle.file_definitions.specs.Document.{items_at, all_of, name_in}
 use Rattle.file_definitions.proofs.KindLaws.{all_of-at}
+use Rattle.name_index.specs.Places.{place_of, is_among}
 use Rattle.network_file.specs.SectionTables.{SectionEntry, entry_of}
 use Rattle.section_tables.proofs.NameLaws.{name_is}
 
@@ -34,3 +37,15 @@ size_form tables s k section name at is = of_table (slice_get tables s) (sym (sl
     of_table (Some table) e =
         let same : entry_of table ≡ section = cc in
         of_items (items_at (codes "sizes") table) (ap (λ (e : SectionEntry). slice_get e.sizes k) same ∙ is)
+
+-- there is a place one further on exactly where there is one
+later : (o : Option ℕ) → is_some o ≡ is_some (option_map (λ p. p + 1) o)
+later None = refl
+later (Some p) = refl
+
+-- a name is among those of which one has its bytes
+pub any_is_among : (name : List ℕ) (names : List (List ℕ)) → list_any (λ other. bytes_eq other name) names ≡ is_among name names
+any_is_among name [] = refl
+any_is_among name (first ∷ names) =
+    elim (bytes_eq first name) as (λ b. (b || list_any (λ other. bytes_eq other name) names) ≡ is_some (cond b (Some 0) (option_map (λ p. p + 1) (place_of name names))))
+    [ true ↦ refl | false ↦ any_is_among name names ∙ later (place_of name names) ]

@@ -8,5 +8,5 @@ abbrev pub invariant-loop-k : goal.invariant-loop-k
 invariant-loop-k l = record {
   end : l.k-end ≡ length (names_in l.names);
   rules : HoldBefore (size_name_rules l.place) (names_in l.names) l.k;
-  sizes : l.sizes ≡ take l.k (names_in l.names);
+  sizes : l.sizes.items ≡ take l.k (names_in l.names);
 }
