@@ -1,0 +1,4 @@
+pub mod Made
+pub mod Fronts
+pub mod Sessions
+pub mod Remade
