@@ -67,6 +67,10 @@ files_and_workers arguments = if is_some arguments.return_fans then None else So
 abbrev pub without_workers : Arguments → Option Arguments
 without_workers arguments = if is_some arguments.workers then None else Some arguments
 
+-- the same arguments, where no return fans are named
+abbrev pub without_return_fans : Arguments → Option Arguments
+without_return_fans arguments = if is_some arguments.return_fans then None else Some arguments
+
 -- not empty, and no option
 abbrev pub is_plain : List ℕ → Bool
 is_plain [] = false

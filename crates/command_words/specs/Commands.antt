@@ -4,8 +4,8 @@ use Rattle.std.specs.Prelude.{ℕ, ◌≤◌, ⊤, List, [], ◌∷◌, ◌++◌
 use Rattle.duct_definitions.specs.declared.limits.TheConstants.{MAX_SECTIONS}
 use Rattle.duct_definitions.specs.declared.duct.TheConstants.{MIN_DENSITY, MAX_DENSITY}
 use Rattle.friction_maker.specs.declared.limits.TheConstants.{MIN_VISCOSITY, MAX_VISCOSITY}
-use Rattle.command_words.specs.declared.words.FileKind.{FileKind}
-use Rattle.command_words.specs.declared.words.FileKind.TheVariants.{Network, Project, Sizes, Ducts, Friction, Fittings, Fans, ReturnFans, Design as DesignText, Certificate}
+use Rattle.command_words.specs.declared.commands.FileKind.{FileKind}
+use Rattle.command_words.specs.declared.commands.FileKind.TheVariants.{Network, Project, Sizes, Ducts, Friction, Fittings, Fans, ReturnFans, Design as DesignText, Certificate, Script}
 
 -- the files of a project, its catalogues, and the return fans where they are offered
 pub record DesignFiles : Type 0 where
@@ -54,6 +54,8 @@ pub data Command : Type 0 where
   verify : VerifyFiles → Command
   -- what to buy for a design of a project
   takeoff : TakeoffFiles → Command
+  -- the least-cost design of a project, and the one after each line of a script
+  edit : DesignFiles → List ℕ → Command
 
 -- density and viscosity are within their bounds
 abbrev pub IsAirInBounds : ℕ → ℕ → Type 0
@@ -75,6 +77,7 @@ IsInBounds (make n) = IsSectionCount n
 IsInBounds (certify network) = ⊤
 IsInBounds (verify files) = ⊤
 IsInBounds (takeoff files) = ⊤
+IsInBounds (edit files script) = ⊤
 
 -- a file by what it is and by its name
 pub record NamedFile : Type 0 where
@@ -119,6 +122,7 @@ files_of (make n) = []
 files_of (certify network) = named Network network ∷ []
 files_of (verify files) = verify_files files
 files_of (takeoff files) = named Project files.project ∷ named DesignText files.design ∷ []
+files_of (edit files script) = project_files files ++ named Script script ∷ []
 files_of (check files text) = project_files files ++ named DesignText text ∷ []
 
 -- the names of the files of a command, in the order in which they are taken

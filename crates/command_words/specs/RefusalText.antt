@@ -7,8 +7,8 @@ use Rattle.duct_units.specs.declared.fault.Part.TheVariants as part
 use Rattle.duct_units.specs.declared.fault.Reason.{Reason}
 use Rattle.duct_units.specs.declared.fault.Reason.TheVariants as reason
 use Rattle.duct_units.specs.Lines.{line}
-use Rattle.command_words.specs.declared.words.FileKind.{FileKind}
-use Rattle.command_words.specs.declared.words.FileKind.TheVariants as file
+use Rattle.command_words.specs.declared.commands.FileKind.{FileKind}
+use Rattle.command_words.specs.declared.commands.FileKind.TheVariants as file
 
 -- the word of a kind of file
 abbrev pub file_word : FileKind → List ℕ
@@ -22,6 +22,7 @@ file_word file.Fans = codes "fans"
 file_word file.ReturnFans = codes "return-fans"
 file_word file.Design = codes "design"
 file_word file.Certificate = codes "certificate"
+file_word file.Script = codes "script"
 
 -- the word of what a place counts
 abbrev pub part_word : Part → List ℕ

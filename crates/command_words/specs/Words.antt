@@ -10,8 +10,8 @@ use Rattle.duct_definitions.specs.declared.limits.TheConstants.{MAX_SECTIONS}
 use Rattle.duct_definitions.specs.declared.duct.TheConstants.{MIN_DENSITY, MAX_DENSITY}
 use Rattle.friction_maker.specs.declared.limits.TheConstants.{MIN_VISCOSITY, MAX_VISCOSITY}
 use Rattle.command_words.specs.declared.workers.TheConstants.{MAX_WORKERS, DEFAULT_WORKERS}
-use Rattle.command_words.specs.Arguments.{Arguments, arguments_of, files_alone, files_and_workers, without_workers, plain, plain_value}
-use Rattle.command_words.specs.Commands.{Command, DesignFiles, FrictionWords, VerifyFiles, TakeoffFiles, pick, migrate, friction, design, check, make, certify, verify, takeoff, names_of}
+use Rattle.command_words.specs.Arguments.{Arguments, arguments_of, files_alone, files_and_workers, without_workers, without_return_fans, plain, plain_value}
+use Rattle.command_words.specs.Commands.{Command, DesignFiles, FrictionWords, VerifyFiles, TakeoffFiles, pick, migrate, friction, design, check, make, certify, verify, takeoff, edit, names_of}
 
 -- a command, and how many workers condense
 pub record Asked : Type 0 where
@@ -76,6 +76,13 @@ check_words arguments = if length arguments.files == 6 then (do
   text ← file_at arguments.files 5
   Some (check files text)) else None
 
+-- the files of `edit`, with the script behind the others
+abbrev pub edit_words : Arguments → Option Command
+edit_words arguments = if length arguments.files == 6 then (do
+  files ← project_words arguments
+  script ← file_at arguments.files 5
+  Some (edit files script)) else None
+
 -- the third file, which is plain where it stands there
 abbrev pub last_file : List (List ℕ) → Option (Option (List ℕ))
 last_file files = if length files == 3 then option_map (λ name. Some name) (file_at files 2) else Some None
@@ -107,6 +114,7 @@ command_from name arguments =
     else if bytes_eq name (codes "certify") then option_map certify (files_and_workers arguments >>= one_file)
     else if bytes_eq name (codes "verify") then option_map verify (files_alone arguments >>= verify_words)
     else if bytes_eq name (codes "takeoff") then option_map takeoff (files_alone arguments >>= takeoff_words)
+    else if bytes_eq name (codes "edit") then without_return_fans arguments >>= edit_words
     else None
 
 -- how many workers condense

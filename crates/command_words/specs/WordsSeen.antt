@@ -1,14 +1,14 @@
 -- What accepted words ask for, wherever the words lie in memory.
 use Rattle.std.specs.Prelude.{option_map}
-use Rattle.command_words.specs.declared.words.Command.{Command as CommandWords}
+use Rattle.command_words.specs.declared.commands.Command.{Command as CommandWords}
+use Rattle.command_words.specs.declared.commands.Command.TheVariants.{Pick, Migrate, Friction, Design, Check, Make, Certify, Verify, Takeoff, Edit}
+use Rattle.command_words.specs.declared.commands.DesignWords.{DesignWords}
+use Rattle.command_words.specs.declared.commands.FileWord.{FileWord}
+use Rattle.command_words.specs.declared.commands.FrictionWords.{FrictionWords as Words}
+use Rattle.command_words.specs.declared.commands.TakeoffWords.{TakeoffWords}
+use Rattle.command_words.specs.declared.commands.VerifyWords.{VerifyWords}
 use Rattle.command_words.specs.declared.words.Asked.{Asked as AskedWords}
-use Rattle.command_words.specs.declared.words.Command.TheVariants.{Pick, Migrate, Friction, Design, Check, Make, Certify, Verify, Takeoff}
-use Rattle.command_words.specs.declared.words.DesignWords.{DesignWords}
-use Rattle.command_words.specs.declared.words.FileWord.{FileWord}
-use Rattle.command_words.specs.declared.words.FrictionWords.{FrictionWords as Words}
-use Rattle.command_words.specs.declared.words.TakeoffWords.{TakeoffWords}
-use Rattle.command_words.specs.declared.words.VerifyWords.{VerifyWords}
-use Rattle.command_words.specs.Commands.{Command, pick, migrate, friction, design, check, make, certify, verify, takeoff, DesignFiles, FrictionWords, VerifyFiles, TakeoffFiles, NamedFile, named}
+use Rattle.command_words.specs.Commands.{Command, pick, migrate, friction, design, check, make, certify, verify, takeoff, edit, DesignFiles, FrictionWords, VerifyFiles, TakeoffFiles, NamedFile, named}
 use Rattle.command_words.specs.Words.{Asked}
 
 -- the words of `friction`
@@ -54,6 +54,7 @@ command_seen (Make n) = make n
 command_seen (Certify network) = certify network.now
 command_seen (Verify words) = verify (verify_seen words)
 command_seen (Takeoff words) = takeoff (takeoff_seen words)
+command_seen (Edit words script) = edit (design_seen words) script.now
 
 -- the command, and how many workers condense
 abbrev pub asked_seen : AskedWords → Asked

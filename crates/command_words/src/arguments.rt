@@ -1,6 +1,6 @@
 //! The words behind a command's name.
 ghost use Rattle.std.specs.Prelude.{◌≡◌, ◌<◌, ◌≤◌, [], length, map, option_and_then, option_map, slice_get, string_bytes};
-ghost use Rattle.command_words.specs.Arguments.{arguments_from, arguments_of, files_alone, files_and_workers, is_plain, no_arguments, option_named, plain, plain_value, with_file, with_value, without_workers};
+ghost use Rattle.command_words.specs.Arguments.{arguments_from, arguments_of, files_alone, files_and_workers, is_plain, no_arguments, option_named, plain, plain_value, with_file, with_value, without_return_fans, without_workers};
 ghost use Rattle.command_words.specs.ArgumentsSeen.{arguments_seen};
 
 use duct_ports::{MAX_NAMES, Names};
@@ -21,8 +21,8 @@ pub struct Arguments<'w> {
 }
 
 impl<'w> Arguments<'w> {
-    /// What the words are; None where an option has no value or stands twice, or where more files are named than a run may
-    /// ask for. Takes no memory.
+    /// What the words are; None where an option has no value or stands twice, or where more files are named than a run
+    /// may ask for. Takes no memory.
     pub fn of_words(words: &'w [String]) -> Option<Arguments<'w>>
         ensures { option_map arguments_seen result ≡ arguments_of (map string_bytes words.now) }
     {
@@ -91,6 +91,17 @@ impl<'w> Arguments<'w> {
         ensures { option_map (λ arguments. arguments_seen arguments.now) result ≡ without_workers (arguments_seen self.now) }
     {
         if self.workers.is_some() {
+            None
+        } else {
+            Some(self)
+        }
+    }
+
+    /// The same arguments, where no return fans are named.
+    pub fn without_return_fans(&self) -> Option<&Arguments<'w>>
+        ensures { option_map (λ arguments. arguments_seen arguments.now) result ≡ without_return_fans (arguments_seen self.now) }
+    {
+        if self.return_fans.is_some() {
             None
         } else {
             Some(self)

@@ -1,12 +1,11 @@
 //! The lines of refusals and faults.
-ghost use Rattle.std.specs.Prelude.{◌≡◌, [], ◌∷◌, codes, IfOk};
-ghost use Rattle.duct_units.specs.Lines.{line};
+ghost use Rattle.std.specs.Prelude.{◌≡◌, IfOk};
 ghost use Rattle.command_words.specs.RefusalText.{file_word, part_word, reason_word, refusal_line, words_line, fault_line};
 
-use crate::words::FileKind;
+use crate::commands::FileKind;
 use duct_units::{Fault, List, NoMemory, Part, Reason};
 use std::alloc::Global;
-use text_lines::{Text, number};
+use text_lines::{number, one_line};
 
 /// The line of refused words.
 #[tactic(auto, unfolding(duct_units::specs::Lines::line))]
@@ -29,27 +28,16 @@ pub fn refusal_text(alloc: Global, file: FileKind, fault: &Fault) -> Result<List
     ensures { IfOk result (λ text. text ≡ refusal_line file fault.now) }
 {
     let place = number(alloc, u64::from(fault.place))?;
-    refused_text(
+    one_line(
         alloc,
-        file_word(file),
-        part_word(fault.part),
-        place.as_bytes(),
-        reason_word(fault.reason),
+        b"refused",
+        &[
+            file_word(file),
+            part_word(fault.part),
+            place.as_bytes(),
+            reason_word(fault.reason),
+        ],
     )
-}
-
-fn refused_text<'a>(
-    alloc: Global,
-    file: &'a [u8],
-    part: &'a [u8],
-    place: &'a [u8],
-    reason: &'a [u8],
-) -> Result<List<u8>, NoMemory>
-    ensures { IfOk result (λ text. text ≡ line (codes "refused") (file.now ∷ part.now ∷ place.now ∷ reason.now ∷ [])) }
-{
-    let mut text = Text::new(alloc);
-    text.line(b"refused", &[file, part, place, reason])?;
-    Ok(text.into_list())
 }
 
 fn file_word(file: FileKind) -> &'static [u8]
@@ -66,6 +54,7 @@ fn file_word(file: FileKind) -> &'static [u8]
         FileKind::ReturnFans => b"return-fans",
         FileKind::Design => b"design",
         FileKind::Certificate => b"certificate",
+        FileKind::Script => b"script",
     }
 }
 
