@@ -18,22 +18,16 @@ use Rattle.duct_cli.specs.Checking.{checking}
 use Rattle.duct_cli.specs.Designing.{Rules, designing, held_by}
 use Rattle.command_words.specs.RefusalText.{words_line}
 use Rattle.duct_cli.specs.Taking.{first_too_long}
-use Rattle.command_words.specs.Commands.{Command, DesignFiles, FrictionWords, pick, migrate, friction, design, check, make, certify, verify, takeoff, files_of}
+use Rattle.command_words.specs.Commands.{Command, DesignFiles, FrictionWords, pick, migrate, friction, design, check, make, certify, verify, takeoff, edit, files_of}
 use Rattle.command_words.specs.Words.{command_of}
 use Rattle.network_file.specs.NetworkFile.{network_of}
-use Rattle.duct_cli.specs.Answer.{AnswersDesign, AnswersProject, AnswersNetwork, AnswersMigration, AnswersFriction, AnswersCheck, AnswersMade, AnswersFiles, AnswersCommand, AreOneText, IsAnswer}
+use Rattle.duct_cli.specs.Answer.{AnswersProject, AnswersNetwork, AnswersMigration, AnswersFriction, AnswersCheck, AnswersMade, AnswersFiles, AnswersCommand, AreOneText, IsAnswer}
 use Rattle.duct_cli.specs.Says.{Says}
 use Rattle.duct_cli.proofs.Once.{AreOne, says_once, result_once, option_once}
+use Rattle.duct_cli.proofs.BestOnce.{design_once}
+use Rattle.duct_cli.proofs.EditingOnce.{edit_once}
 use Rattle.duct_cli.proofs.CertifyingOnce.{certify_once, verify_once}
 use Rattle.duct_cli.proofs.TakingOffOnce.{takeoff_once}
-
-design_once : (net : Network) (refusals : List RuleCount) (s t : ℕ) (one other : List ℕ) → AnswersDesign net refusals s one → AnswersDesign net refusals t other → AreOne s t one other
-design_once net refusals s t one other (inl best) (inl again) =
-    let same : ◌≡◌ {A = List ℕ} (text (listed net best.0)) (text (listed net again.0)) = ap (λ (d : Design). text (listed net d)) (best_is_one net best.0 again.0 best.1 again.1) in
-    (best.3.0 ∙ sym again.3.0, best.3.1 ∙ same ∙ sym again.3.1)
-design_once net refusals s t one other (inl best) (inr none) = absurd (none.0 best.0 best.1.meets)
-design_once net refusals s t one other (inr none) (inl best) = absurd (none.0 best.0 best.1.meets)
-design_once net refusals s t one other (inr none) (inr again) = says_once _ _ s t one other none.1 again.1
 
 network_once : (bytes : List ℕ) (s t : ℕ) (one other : List ℕ) → AnswersNetwork bytes s one → AnswersNetwork bytes t other → AreOne s t one other
 network_once bytes s t one other =
@@ -86,6 +80,7 @@ files_once rules contents (certify network) s t one other = certify_once (conten
 files_once rules contents (verify files) s t one other =
     verify_once (contents files.network) (contents files.certificate) (option_map contents files.design) s t one other
 files_once rules contents (takeoff files) s t one other = takeoff_once (contents files.project) (contents files.design) s t one other
+files_once rules contents (edit files script) s t one other = edit_once rules (held_by contents files) (contents script) s t one other
 
 -- one text is one text of any command
 one_text : (command : Option Command) (one other : List ℕ) → one ≡ other → AreOneText command one other
@@ -99,6 +94,7 @@ one_text (Some (make n)) one other same = same
 one_text (Some (certify network)) one other same = same
 one_text (Some (verify files)) one other same = same
 one_text (Some (takeoff files)) one other same = same
+one_text (Some (edit files script)) one other same = same
 
 says_one : (command : Option Command) (status : ℕ) (said : List ℕ) (s t : ℕ) (one other : List ℕ) → Says status said s one → Says status said t other
     → (s ≡ t) × AreOneText command one other

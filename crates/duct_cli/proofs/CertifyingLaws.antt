@@ -7,7 +7,7 @@ use Rattle.duct_units.specs.declared.fault.ReadError.TheVariants.{Refused}
 use Rattle.duct_definitions.specs.Network.{Network}
 use Rattle.front_certificate.specs.Reading.{IsRefusal}
 use Rattle.command_words.specs.RefusalText.{refusal_line}
-use Rattle.command_words.specs.declared.words.FileKind.TheVariants.{Certificate as certificate_file}
+use Rattle.command_words.specs.declared.commands.FileKind.TheVariants.{Certificate as certificate_file}
 use Rattle.duct_cli.specs.declared.answers.Answer.{Answer}
 use Rattle.duct_cli.specs.declared.status.TheConstants.{REFUSED}
 use Rattle.duct_cli.specs.Certifying.{AnswersCertificate}

@@ -10,7 +10,7 @@ use Rattle.front_certificate.proofs.OneReading.{text-once, refusal-once, text-no
 use Rattle.exact_certificate.proofs.OneCertificate.{certificate-once}
 use Rattle.certified_design.proofs.Findings.{found-once}
 use Rattle.command_words.specs.RefusalText.{refusal_line}
-use Rattle.command_words.specs.declared.words.FileKind.TheVariants.{Certificate as certificate_file}
+use Rattle.command_words.specs.declared.commands.FileKind.TheVariants.{Certificate as certificate_file}
 use Rattle.duct_cli.specs.Certifying.{AnswersCertify, AnswersVerify, AnswersCertificate, AnswersBeside, AnswersFinding, finding_line, finding_status, listed_of}
 use Rattle.duct_cli.proofs.Once.{AreOne, says_once, result_once}
 

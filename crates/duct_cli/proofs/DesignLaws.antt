@@ -11,12 +11,14 @@ use Rattle.duct_cli.specs.declared.status.TheConstants.{REFUSED}
 use Rattle.duct_cli.specs.declared.designing.Refusal.{Refusal}
 use Rattle.duct_cli.specs.declared.designing.Unread.{Unread}
 use Rattle.duct_cli.specs.declared.designing.Unread.TheVariants as unread
-use Rattle.duct_cli.specs.Answer.{AnswersCheck, AnswersDesign, AnswersProject, IsRefusalLine}
+use Rattle.duct_cli.specs.Answer.{AnswersCheck, AnswersProject, IsRefusalLine}
+use Rattle.duct_cli.specs.BestDesign.{AnswersDesign}
 use Rattle.duct_cli.specs.Says.{Says}
 use Rattle.duct_cli.specs.Checking.{checking, verdict_line, verdict_status}
-use Rattle.command_words.specs.Commands.{DesignFiles, design, check, names_of}
+use Rattle.command_words.specs.Commands.{DesignFiles, design, check, edit, names_of}
 use Rattle.duct_cli.specs.DesignBytes.{bytes_at}
 use Rattle.duct_units.specs.Results.{◌>>=◌}
+use Rattle.duct_cli.specs.Editing.{AnswersEdit}
 use Rattle.duct_cli.specs.Designing.{Rules, Yields, designing, held_by}
 use Rattle.command_words.specs.RefusalText.{refusal_line}
 
@@ -119,23 +121,39 @@ module _ (rules : Rules) (bytes : DesignFiles) where
   refusal_answers unread (Ok a) is line = line_answers unread a is line
   refusal_answers unread (Err error) is line = tt
 
--- the answer for files and a text that lie one behind the other is the one for what the named files hold
-check_says : (rules : Rules) (files : DesignFiles) (text : List ℕ) (bytes : List (List ℕ)) (last : List ℕ) (a : Answer)
-    → last ≡ get_or bytes (length bytes - 1) last → AnswersCheck rules (bytes_at (take (length bytes - 1) bytes)) last a.status a.text
-    → (contents : List ℕ → List ℕ) → bytes ≡ map contents (names_of (check files text))
-    → AnswersCheck rules (held_by contents files) (contents text) a.status a.text
-check_says rules files text bytes last a back says contents are =
+-- a script is named where a design text is
+script_like_text : (text project sizes rates fittings fans : List ℕ) (back : Option (List ℕ)) → (
+    let files : DesignFiles = record { project = project; sizes = sizes; friction = rates; fittings = fittings; fans = fans; return_fans = back } in
+    names_of (edit files text) ≡ names_of (check files text)
+    )
+script_like_text text project sizes rates fittings fans None = refl
+script_like_text text project sizes rates fittings fans (Some name) = refl
+
+-- what holds of files and a text that lie one behind the other holds of what the named files hold
+by_name : (Holds : DesignFiles → List ℕ → Type 0) (files : DesignFiles) (text : List ℕ) (bytes : List (List ℕ)) (last : List ℕ)
+    → last ≡ get_or bytes (length bytes - 1) last → Holds (bytes_at (take (length bytes - 1) bytes)) last
+    → (contents : List ℕ → List ℕ) → bytes ≡ map contents (names_of (check files text)) → Holds (held_by contents files) (contents text)
+by_name Holds files text bytes last back holds contents are =
     let front_is : bytes_at (take (length bytes - 1) bytes) ≡ held_by contents files =
     ap (λ (bs : List (List ℕ)). bytes_at (take (length bs - 1) bs)) are ∙ files_before contents text files in
     let text_is : last ≡ contents text =
     back ∙ ap (λ (bs : List (List ℕ)). get_or bs (length bs - 1) last) are ∙ text_behind contents text files last in
-    subst (λ held. AnswersCheck rules held (contents text) a.status a.text) front_is
-    (subst (λ held. AnswersCheck rules (bytes_at (take (length bytes - 1) bytes)) held a.status a.text) text_is says)
+    subst (λ held. Holds held (contents text)) front_is (subst (λ held. Holds (bytes_at (take (length bytes - 1) bytes)) held) text_is holds)
 
 pub check_answers : (rules : Rules) (files : DesignFiles) (text : List ℕ) (bytes : List (List ℕ)) (last : List ℕ) (answer : Result Answer NoMemory)
     → last ≡ get_or bytes (length bytes - 1) last
     → IfOk answer (λ a. AnswersCheck rules (bytes_at (take (length bytes - 1) bytes)) last a.status a.text)
     → IfOk answer (λ a. (contents : List ℕ → List ℕ) → bytes ≡ map contents (names_of (check files text))
     → AnswersCheck rules (held_by contents files) (contents text) a.status a.text)
-check_answers rules files text bytes last (Ok a) back says = check_says rules files text bytes last a back says
+check_answers rules files text bytes last (Ok a) back says = by_name (λ held t. AnswersCheck rules held t a.status a.text) files text bytes last back says
 check_answers rules files text bytes last (Err error) back says = tt
+
+pub edit_answers : (rules : Rules) (files : DesignFiles) (script : List ℕ) (bytes : List (List ℕ)) (last : List ℕ) (answer : Result Answer NoMemory)
+    → last ≡ get_or bytes (length bytes - 1) last
+    → IfOk answer (λ a. AnswersEdit rules (bytes_at (take (length bytes - 1) bytes)) last a.status a.text)
+    → IfOk answer (λ a. (contents : List ℕ → List ℕ) → bytes ≡ map contents (names_of (edit files script))
+    → AnswersEdit rules (held_by contents files) (contents script) a.status a.text)
+edit_answers rules files script bytes last (Ok a) back says = λ contents are.
+    by_name (λ held t. AnswersEdit rules held t a.status a.text) files script bytes last back says contents
+    (are ∙ ap (map contents) (script_like_text script files.project files.sizes files.friction files.fittings files.fans files.return_fans))
+edit_answers rules files script bytes last (Err error) back says = tt

@@ -2,6 +2,9 @@ pub mod TakingLaws
 pub mod ReplyLaws
 pub mod RunLaws
 pub mod Once
+pub mod BestOnce
+pub mod EditingOnce
+pub mod EditingLaws
 pub mod CertifyingLaws
 pub mod SectionLengths
 pub mod CertifyingOnce

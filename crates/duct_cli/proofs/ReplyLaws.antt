@@ -17,8 +17,8 @@ use Rattle.duct_cli.specs.declared.answers.Answer.{Answer}
 use Rattle.duct_cli.specs.declared.reply.Reply.{Reply}
 use Rattle.duct_cli.specs.declared.reply.Reply.TheVariants as reply
 use Rattle.duct_cli.specs.declared.status.TheConstants.{READ_FAULT, REFUSED, REFUSED_WORDS}
-use Rattle.command_words.specs.declared.words.FileKind.{FileKind}
-use Rattle.command_words.specs.declared.words.FileWord.{FileWord}
+use Rattle.command_words.specs.declared.commands.FileKind.{FileKind}
+use Rattle.command_words.specs.declared.commands.FileWord.{FileWord}
 
 names_of_files : (words : List FileWord) → names_seen words ≡ map (λ (file : NamedFile). file.name) (map file_seen words)
 names_of_files [] = refl

@@ -5,7 +5,7 @@ use Rattle.std.proofs.lemmas.Bool.{le-ltb, lt-ltb}
 use Rattle.std.proofs.lemmas.List.{take_more, drop_more, take-append-drop, map-append}
 use Rattle.duct_ports.specs.Reading.{Contents, Holds, HoldsMoreThan}
 use Rattle.duct_ports.specs.declared.read.TheConstants.{MAX_FILE_BYTES}
-use Rattle.command_words.specs.declared.words.FileWord.{FileWord}
+use Rattle.command_words.specs.declared.commands.FileWord.{FileWord}
 use Rattle.duct_cli.specs.Taking.{AreWhole, AsksOn, first_too_long, names_seen}
 use Rattle.command_words.specs.Commands.{NamedFile}
 use Rattle.command_words.specs.WordsSeen.{file_seen}

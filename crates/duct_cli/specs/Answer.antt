@@ -9,7 +9,7 @@ use Rattle.duct_definitions.specs.Order.{IsBest, NoneMeets}
 use Rattle.duct_definitions.specs.Balance.{IsBalanced}
 use Rattle.duct_definitions.specs.DesignText.{text, listed, none_text}
 use Rattle.duct_cli.specs.declared.status.TheConstants.{FOUND, REFUSED, REFUSED_WORDS, NONE_FOUND}
-use Rattle.command_words.specs.declared.words.FileKind.TheVariants.{Network as network_file, Project as project_file, Sizes as sizes_file, Ducts as ducts_file}
+use Rattle.command_words.specs.declared.commands.FileKind.TheVariants.{Network as network_file, Project as project_file, Sizes as sizes_file, Ducts as ducts_file}
 use Rattle.file_definitions.specs.Document.{document_of}
 use Rattle.network_file.specs.NetworkFile.{network_of}
 use Rattle.project_file.specs.Raised.{migrating_bytes}
@@ -25,20 +25,15 @@ use Rattle.command_words.specs.RefusalText.{refusal_line, words_line}
 use Rattle.duct_cli.specs.declared.designing.Unread.{Unread}
 use Rattle.duct_cli.specs.declared.designing.Unread.TheVariants as unread
 use Rattle.duct_cli.specs.Designing.{Rules, designing, held_by}
+use Rattle.duct_cli.specs.BestDesign.{AnswersDesign}
 use Rattle.duct_cli.specs.Certifying.{AnswersCertify, AnswersVerify}
 use Rattle.duct_cli.specs.Checking.{checking, verdict_line, verdict_status}
+use Rattle.duct_cli.specs.Editing.{AnswersEdit}
 use Rattle.duct_cli.specs.Says.{Says}
 use Rattle.duct_cli.specs.TakingOff.{AnswersTakeoff}
 use Rattle.duct_cli.specs.Taking.{first_too_long}
-use Rattle.command_words.specs.Commands.{Command, DesignFiles, FrictionWords, pick, migrate, friction, design, check, make, certify, verify, takeoff, files_of}
+use Rattle.command_words.specs.Commands.{Command, DesignFiles, FrictionWords, pick, migrate, friction, design, check, make, certify, verify, takeoff, edit, files_of}
 use Rattle.command_words.specs.Words.{command_of}
-
--- the text of the best design, whose dampers make every path take its fan's pressure; or the text of none with how many
--- pairs each rule refused, where no design meets the rules
-abbrev pub AnswersDesign : Network → List RuleCount → ℕ → List ℕ → Type 0
-AnswersDesign net refusals status answer =
-    ((d : Design) × IsBest net d × IsBalanced net d × Says FOUND (text (listed net d)) status answer)
-    ⊎ (NoneMeets net × Says NONE_FOUND (none_text net.name refusals) status answer)
 
 -- the answer for the bytes of a network file
 abbrev pub AnswersNetwork : List ℕ → ℕ → List ℕ → Type 0
@@ -107,6 +102,7 @@ AnswersFiles rules contents (certify network) status answer = AnswersCertify (co
 AnswersFiles rules contents (verify files) status answer =
     AnswersVerify (contents files.network) (contents files.certificate) (option_map contents files.design) status answer
 AnswersFiles rules contents (takeoff files) status answer = AnswersTakeoff (contents files.project) (contents files.design) status answer
+AnswersFiles rules contents (edit files script) status answer = AnswersEdit rules (held_by contents files) (contents script) status answer
 
 -- the first file that is too long, or else what the command says
 abbrev pub AnswersCommand : Rules → (List ℕ → List ℕ) → Command → ℕ → List ℕ → Type 0
@@ -134,3 +130,4 @@ AreOneText (Some (make n)) one other = one ≡ other
 AreOneText (Some (certify network)) one other = one ≡ other
 AreOneText (Some (verify files)) one other = one ≡ other
 AreOneText (Some (takeoff files)) one other = one ≡ other
+AreOneText (Some (edit files script)) one other = one ≡ other

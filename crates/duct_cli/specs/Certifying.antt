@@ -19,7 +19,7 @@ use Rattle.certified_design.specs.Findings.{IsFinding, ProvesOf}
 use Rattle.certified_design.specs.declared.finding.Finding.{Finding}
 use Rattle.certified_design.specs.declared.finding.Finding.TheVariants as found
 use Rattle.command_words.specs.RefusalText.{refusal_line}
-use Rattle.command_words.specs.declared.words.FileKind.TheVariants.{Network as network_file, Certificate as certificate_file, Design as text_file}
+use Rattle.command_words.specs.declared.commands.FileKind.TheVariants.{Network as network_file, Certificate as certificate_file, Design as text_file}
 use Rattle.duct_cli.specs.declared.status.TheConstants.{FOUND, REFUSED, NONE_FOUND}
 use Rattle.duct_cli.specs.Says.{Says}
 

@@ -11,7 +11,7 @@ use Rattle.design_text.specs.Reading.{reading}
 use Rattle.design_check.specs.declared.verdict.Verdict.{Verdict}
 use Rattle.design_check.specs.declared.verdict.Verdict.TheVariants.{Yes, Name, Pair, Loss, Fan, Head, Damper, Cost}
 use Rattle.duct_cli.specs.declared.status.TheConstants.{FOUND, NONE_FOUND}
-use Rattle.command_words.specs.declared.words.FileKind.TheVariants.{Design as text_file}
+use Rattle.command_words.specs.declared.commands.FileKind.TheVariants.{Design as text_file}
 use Rattle.duct_cli.specs.declared.designing.Refusal.{Refusal}
 use Rattle.command_words.specs.Commands.{DesignFiles}
 use Rattle.duct_units.specs.Results.{◌>>=◌}

@@ -19,8 +19,8 @@ use Rattle.project_file.specs.ProjectFile.{project_of}
 use Rattle.design_rules.specs.Meanings.{Meaning}
 use Rattle.net_build.specs.Built.{built}
 use Rattle.net_build.specs.Fans.{offered}
-use Rattle.command_words.specs.declared.words.FileKind.{FileKind}
-use Rattle.command_words.specs.declared.words.FileKind.TheVariants.{Project as project_file, Sizes, Friction, Fittings, Fans, ReturnFans}
+use Rattle.command_words.specs.declared.commands.FileKind.{FileKind}
+use Rattle.command_words.specs.declared.commands.FileKind.TheVariants.{Project as project_file, Sizes, Friction, Fittings, Fans, ReturnFans}
 use Rattle.duct_cli.specs.declared.designing.DesignData.{DesignData}
 use Rattle.duct_cli.specs.declared.designing.Refusal.{Refusal}
 use Rattle.duct_cli.specs.declared.designing.Unread.{Unread}

@@ -5,6 +5,8 @@ pub mod Says
 pub mod Checking
 pub mod Certifying
 pub mod TakingOff
+pub mod BestDesign
+pub mod Editing
 pub mod Answer
 pub mod Reply
 pub mod Run

@@ -7,8 +7,8 @@ use Rattle.duct_ports.specs.Reading.{Contents}
 use Rattle.duct_ports.specs.declared.read.TheConstants.{MAX_FILE_BYTES}
 use Rattle.duct_cli.specs.declared.taking.Taken.{Taken}
 use Rattle.duct_cli.specs.declared.taking.Taken.TheVariants as taken
-use Rattle.command_words.specs.declared.words.FileKind.{FileKind}
-use Rattle.command_words.specs.declared.words.FileWord.{FileWord}
+use Rattle.command_words.specs.declared.commands.FileKind.{FileKind}
+use Rattle.command_words.specs.declared.commands.FileWord.{FileWord}
 use Rattle.command_words.specs.Commands.{NamedFile}
 use Rattle.command_words.specs.WordsSeen.{file_seen}
 

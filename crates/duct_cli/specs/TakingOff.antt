@@ -11,7 +11,7 @@ use Rattle.material_takeoff.specs.Agreement.{section_names, IsFirstDifference}
 use Rattle.material_takeoff.specs.TakeOffText.{takeoff_text, no_cost_text}
 use Rattle.material_takeoff.specs.Uses.{take_off, fans_cost, sections_price}
 use Rattle.command_words.specs.RefusalText.{refusal_line}
-use Rattle.command_words.specs.declared.words.FileKind.TheVariants.{Project as project_file, Design as text_file}
+use Rattle.command_words.specs.declared.commands.FileKind.TheVariants.{Project as project_file, Design as text_file}
 use Rattle.duct_cli.specs.declared.status.TheConstants.{FOUND, REFUSED, NONE_FOUND}
 use Rattle.duct_cli.specs.Says.{Says}
 

@@ -1,11 +1,13 @@
 //! What each command answers for the bytes of its files.
-ghost use Rattle.std.specs.Prelude.{◌≡◌, ◌≢◌, ℕ, ◌<◌, ◌≤◌, length, map, option_map, slice_get, slice_index, IfOk};
+ghost use Rattle.std.specs.Prelude.{◌≡◌, ◌≢◌, ℕ, ◌<◌, ◌≤◌, length, map, option_map, slice_get, slice_index, option_copied, IfOk, IfSome, IfNone};
 ghost use Rattle.duct_definitions.specs.Designs.{Meets};
+ghost use Rattle.duct_definitions.specs.Order.{IsBest, NoneMeets};
 ghost use Rattle.duct_definitions.specs.Balance.{IsBalanced};
 ghost use Rattle.duct_definitions.specs.DesignText.{text, listed};
 ghost use Rattle.duct_load.specs.Made.{made};
 ghost use Rattle.duct_ports.specs.Reading.{Contents};
-ghost use Rattle.duct_cli.specs.Answer.{AnswersDesign, AnswersProject, IsRefusalLine, AnswersDucts, AnswersFiles, AnswersFriction, AnswersMade, AnswersMigration, AnswersNetwork};
+ghost use Rattle.duct_cli.specs.Answer.{AnswersProject, IsRefusalLine, AnswersDucts, AnswersFiles, AnswersFriction, AnswersMade, AnswersMigration, AnswersNetwork};
+ghost use Rattle.duct_cli.specs.BestDesign.{AnswersDesign};
 ghost use Rattle.duct_cli.specs.Designing.{rules_of};
 ghost use Rattle.duct_cli.specs.DesignBytes.{bytes_at};
 ghost use Rattle.command_words.specs.RefusalText.{refusal_line};
@@ -16,6 +18,7 @@ use crate::certifying::{answer_certify, answer_verify};
 use crate::checking::answer_check;
 use crate::crew::Crew;
 use crate::designing::{DesignBytes, Unread, network_of_files};
+use crate::editing::answer_edit;
 use crate::status::{FOUND, NONE_FOUND, READ_FAULT, REFUSED, REFUSED_WORDS};
 use crate::taking_off::answer_takeoff;
 use command_words::{Command, FileKind, FrictionWords, refusal_text};
@@ -83,6 +86,10 @@ pub fn answer_command<T: Threads + Sync, G: Gate, R: SizeRule>(
         Command::Check(..) => {
             let last = bytes.len() - 1;
             answer_check(alloc, &bytes[..last], bytes[last].as_slice(), rules)
+        }
+        Command::Edit(..) => {
+            let last = bytes.len() - 1;
+            answer_edit(alloc, crew, &bytes[..last], bytes[last].as_slice(), rules)
         }
     }
 }
@@ -217,10 +224,26 @@ fn answer_design<T: Threads + Sync, G: Gate>(
     ensures answer { IfOk result (λ a. AnswersDesign net.now refusals.now a.status a.text) }
     ensures status { IfOk result (λ a. (a.status < READ_FAULT) × (a.status ≢ REFUSED_WORDS)) }
 {
-    match best_design(crew.rt, alloc, net, crew.workers, crew.gate)? {
+    let best = best_design(crew.rt, alloc, net, crew.workers, crew.gate)?;
+    design_answer(alloc, net, best.as_ref(), refusals)
+}
+
+/// The answer of a network's best design, or of none.
+pub fn design_answer(
+    alloc: Global,
+    net: &Network,
+    best: Option<&Design>,
+    refusals: &[RuleCount],
+) -> Result<Answer, NoMemory>
+    requires some { IfSome (option_copied best) (IsBest net.now) }
+    requires none { IfNone (option_copied best) (NoneMeets net.now) }
+    ensures answer { IfOk result (λ a. AnswersDesign net.now refusals.now a.status a.text) }
+    ensures status { IfOk result (λ a. (a.status < READ_FAULT) × (a.status ≢ REFUSED_WORDS)) }
+{
+    match best {
         Some(best) => Ok(Answer {
             status: FOUND,
-            text: design_text(alloc, net, &best)?,
+            text: design_text(alloc, net, best)?,
         }),
         None => Ok(Answer {
             status: NONE_FOUND,

@@ -1,6 +1,5 @@
 //! What `certify` and `verify` answer.
-ghost use Rattle.std.specs.Prelude.{◌≡◌, ◌≢◌, ◌<◌, ◌∷◌, [], codes, length, map, option_map, IfOk};
-ghost use Rattle.duct_units.specs.Lines.{line};
+ghost use Rattle.std.specs.Prelude.{◌≡◌, ◌≢◌, ◌<◌, length, option_map, IfOk};
 ghost use Rattle.duct_units.specs.Rules.{Gives};
 ghost use Rattle.front_certificate.specs.Certificates.{front_count};
 ghost use Rattle.certified_design.specs.Findings.{NamesSection};
@@ -21,7 +20,7 @@ use net_model::Network;
 use network_file::read_network;
 use std::alloc::Global;
 use std::thread::Threads;
-use text_lines::Text;
+use text_lines::one_line;
 
 /// The answer for the bytes of a network file that is to be certified.
 pub fn answer_certify<T: Threads + Sync, G: Gate>(
@@ -134,20 +133,12 @@ fn finding_line(alloc: Global, net: &Network, finding: Finding) -> Result<List<u
     ensures { IfOk result (λ text. text ≡ finding_line net.now finding) }
 {
     match finding {
-        Finding::Yes => certificate_line(alloc, &[b"yes"]),
+        Finding::Yes => one_line(alloc, b"certificate", &[b"yes"]),
         Finding::Section(s) => {
             let name = net.section_name(s);
-            certificate_line(alloc, &[b"no", b"section", name.bytes()])
+            one_line(alloc, b"certificate", &[b"no", b"section", name.bytes()])
         }
-        Finding::Total => certificate_line(alloc, &[b"no", b"total"]),
-        Finding::Design => certificate_line(alloc, &[b"no", b"design"]),
+        Finding::Total => one_line(alloc, b"certificate", &[b"no", b"total"]),
+        Finding::Design => one_line(alloc, b"certificate", &[b"no", b"design"]),
     }
-}
-
-fn certificate_line(alloc: Global, words: &[&[u8]]) -> Result<List<u8>, NoMemory>
-    ensures { IfOk result (λ text. text ≡ line (codes "certificate") (map (λ word. word.now) words.now)) }
-{
-    let mut text = Text::new(alloc);
-    text.line(b"certificate", words)?;
-    Ok(text.into_list())
 }

@@ -17,7 +17,7 @@ use design_rules::{MAX_RULES, SizeRule};
 use duct_units::{List, NoMemory};
 use net_model::Network;
 use std::alloc::Global;
-use text_lines::Text;
+use text_lines::one_line;
 
 /// The answer for the bytes of the files of a project and of a design text.
 pub fn answer_check<R: SizeRule>(
@@ -65,14 +65,14 @@ fn verdict_line(alloc: Global, net: &Network, verdict: Verdict) -> Result<List<u
     ensures { IfOk result (λ text. text ≡ verdict_line net.now verdict) }
 {
     match verdict {
-        Verdict::Yes => check_line(alloc, &[b"yes"]),
-        Verdict::Name => check_line(alloc, &[b"no", b"name"]),
+        Verdict::Yes => one_line(alloc, b"check", &[b"yes"]),
+        Verdict::Name => one_line(alloc, b"check", &[b"no", b"name"]),
         Verdict::Pair(s) => section_line(alloc, net, b"pair", s),
         Verdict::Loss(s) => section_line(alloc, net, b"loss", s),
-        Verdict::Fan => check_line(alloc, &[b"no", b"fan"]),
-        Verdict::Head => check_line(alloc, &[b"no", b"head"]),
+        Verdict::Fan => one_line(alloc, b"check", &[b"no", b"fan"]),
+        Verdict::Head => one_line(alloc, b"check", &[b"no", b"head"]),
         Verdict::Damper(s) => section_line(alloc, net, b"damper", s),
-        Verdict::Cost => check_line(alloc, &[b"no", b"cost"]),
+        Verdict::Cost => one_line(alloc, b"check", &[b"no", b"cost"]),
     }
 }
 
@@ -82,13 +82,5 @@ fn section_line(alloc: Global, net: &Network, what: &[u8], s: u32) -> Result<Lis
     ensures { IfOk result (λ text. text ≡ line (codes "check") (codes "no" ∷ what.now ∷ section_name net.now s ∷ [])) }
 {
     let name = net.section_name(s);
-    check_line(alloc, &[b"no", what, name.bytes()])
-}
-
-fn check_line(alloc: Global, words: &[&[u8]]) -> Result<List<u8>, NoMemory>
-    ensures { IfOk result (λ text. text ≡ line (codes "check") (map (λ word. word.now) words.now)) }
-{
-    let mut text = Text::new(alloc);
-    text.line(b"check", words)?;
-    Ok(text.into_list())
+    one_line(alloc, b"check", &[b"no", what, name.bytes()])
 }

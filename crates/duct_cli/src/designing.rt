@@ -114,7 +114,7 @@ pub fn network_and_text<R: SizeRule>(
 }
 
 /// What the files of a design say, or the first refusal in the order of the words.
-fn read_files(alloc: Global, bytes: &DesignBytes<'_>) -> Result<DesignData, Unread>
+pub fn read_files(alloc: Global, bytes: &DesignBytes<'_>) -> Result<DesignData, Unread>
     ensures value { Yields result (data_of (bytes_seen bytes.now)) }
     ensures project { IfOk result (λ said. IsProject said.project) }
     ensures friction { IfOk result (λ said. HasFriction said.sizes said.friction) }

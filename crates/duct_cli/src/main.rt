@@ -9,6 +9,7 @@ mod certifying;
 mod checking;
 mod crew;
 mod designing;
+mod editing;
 #[cfg(test)]
 mod gate_tests;
 mod laws;

@@ -51,6 +51,10 @@ F1,400,100,600,20000,100
 F2,900,100,600,30000,150
 ";
 
+/// The least-cost design by the velocity rule, where a bar stands for a line feed.
+const DESIGN: &str = "0 design 1|project small|fan F1 400 42500|supply 392 400|return 0 0|\
+    section main R2 109 30800 8|section left R2 185 15800 98|section right R2 283 60800 0|cost 149900|end|";
+
 /// A rule that leaves each of three sections one size or none.
 #[derive(Drop)]
 struct OneSize {
@@ -166,6 +170,19 @@ fn a_rule_alone_decides_the_design(rt: HostRuntime) -> Result<(), Fail> {
     Ok(())
 }
 
+/// The calls 1 to 15 start five files, read the bytes of each and find its end.
+#[test]
+fn a_design_needs_each_of_its_reads(rt: HostRuntime) -> Result<(), Fail> {
+    let alloc = rt.alloc();
+    for call in 1..17 {
+        let rules = vec![in alloc; VelocityRule::new()]?;
+        let found = designed_where(&rt, "velocity = 10000", call, rules)?;
+        let wanted = if call < 16 { "4 fault read|" } else { DESIGN };
+        assert_eq!(rt; found.as_str(), wanted, "at {call}");
+    }
+    Ok(())
+}
+
 /// The status and the text of `design` on the project by the rules, where `limit` stands in place of its velocity limit.
 fn designed<T: Threads + Sync + AllocGlobal, R: SizeRule>(
     rt: &T,
@@ -175,9 +192,22 @@ fn designed<T: Threads + Sync + AllocGlobal, R: SizeRule>(
     requires few { length rules.items ≤ MAX_RULES }
     requires fresh { (i : ℕ) → slice_index (map R.count rules.items) i ≡ 0 }
 {
+    designed_where(rt, limit, 0, rules)
+}
+
+/// The same where this call of the files fails; 0 is none.
+fn designed_where<T: Threads + Sync + AllocGlobal, R: SizeRule>(
+    rt: &T,
+    limit: &str,
+    call: u32,
+    rules: Vec<R>,
+) -> Result<String, Fail>
+    requires few { length rules.items ≤ MAX_RULES }
+    requires fresh { (i : ℕ) → slice_index (map R.count rules.items) i ≡ 0 }
+{
     let alloc = rt.alloc();
     let words = words_of(alloc)?;
-    let mut files = files_of(alloc, limit)?;
+    let mut files = files_of(alloc, limit, call)?;
     let mut out = MemorySink::new(alloc, 1000, 1000, List::from_vec(Vec::new(alloc)))?;
     let status = run(
         rt,
@@ -205,7 +235,7 @@ fn words_of(alloc: Global) -> Result<Vec<String>, Fail> {
     Ok(words)
 }
 
-fn files_of<'w>(alloc: Global, limit: &str) -> Result<MemoryFiles<'w>, Fail>
+fn files_of<'w>(alloc: Global, limit: &str, call: u32) -> Result<MemoryFiles<'w>, Fail>
     ensures { IfOk result (λ files. files.asked ≡ []) }
 {
     let project = PROJECT.replace(alloc, "velocity = 10000", limit)?;
@@ -215,7 +245,8 @@ fn files_of<'w>(alloc: Global, limit: &str) -> Result<MemoryFiles<'w>, Fail>
     files.push(held(alloc, "friction", FRICTION)?)?;
     files.push(held(alloc, "fittings", FITTINGS)?)?;
     files.push(held(alloc, "fans", FANS)?)?;
-    Ok(MemoryFiles::new(List::from_vec(files), List::from_vec(Vec::new(alloc))))
+    let fails = List::from_vec(vec![in alloc; call]?);
+    Ok(MemoryFiles::new(List::from_vec(files), fails))
 }
 
 fn held(alloc: Global, name: &str, text: &str) -> Result<HeldFile, Fail> {

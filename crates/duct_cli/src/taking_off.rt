@@ -67,7 +67,7 @@ fn answer_listed(alloc: Global, project: &Project, listed: &Listed) -> Result<An
 }
 
 /// The names of the sections.
-fn names_of(alloc: Global, sections: &[SectionRow]) -> Result<List<Name>, NoMemory>
+pub fn names_of(alloc: Global, sections: &[SectionRow]) -> Result<List<Name>, NoMemory>
     ensures { IfOk result (λ names. names ≡ map (λ row. row.name) sections.now) }
 {
     let mut names = Vec::new(alloc);

@@ -1,7 +1,7 @@
 use Rattle.std.proofs.Common.{Ok}
 use Rattle.duct_definitions.specs.declared.listed.Listed.{Listed}
 use Rattle.design_text.specs.Reading.{reading}
-use Rattle.command_words.specs.declared.words.FileKind.TheVariants.{Design as text_file}
+use Rattle.command_words.specs.declared.commands.FileKind.TheVariants.{Design as text_file}
 use Rattle.duct_units.specs.Results.{◌>>=◌}
 use Rattle.duct_cli.specs.Designing.{data_of, joined, of_file, rules_of}
 use Rattle.duct_cli.specs.DesignBytes.{bytes_seen}

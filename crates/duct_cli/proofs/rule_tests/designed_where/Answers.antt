@@ -1,5 +1,5 @@
 use Rattle.std.proofs.Common.{rules, refl}
-use Rattle.duct_cli.proofs.rule_tests.designed.Goals as goal
+use Rattle.duct_cli.proofs.rule_tests.designed_where.Goals as goal
 
 pub run-status-requires : goal.run-status-requires
 run-status-requires g c κs =
