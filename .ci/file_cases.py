@@ -1,4 +1,4 @@
-"""The cases of a table of files: of each its heading, its line, the answer and the file."""
+"""The cases of a table of files: for each its heading, its line, the answer and the file."""
 import re
 
 BYTES = {"MARK": "\ufeff", "BYTE": "\udcff"}

@@ -13,7 +13,7 @@ FANS = 8
 
 
 def is_return(i):
-    """Of each three sections the last is of the return side."""
+    """Every third section is of the return side."""
     return i % 3 == 2
 
 

@@ -6,9 +6,9 @@ RETURN_FANS = "return-fans.csv"
 
 
 class Made:
-    """The texts of a small project that the number alone decides."""
+    """The texts of a small project that the number alone decides, with one of these counts of sections."""
 
-    def __init__(self, number):
+    def __init__(self, number, counts=(1, 2, 3, 3, 4, 4, 5)):
         self.dice = dice = random.Random(f"project {number}")
         self.format = dice.choice([1, 2])
         # With coarse numbers, losses and prices are so small that ties are common.
@@ -17,7 +17,7 @@ class Made:
                       for name in dice.choice([["round"], ["round", "flat"]])}
         self.tables = [] if self.coarse else dice.choice([[], ["tee"], ["tee", "run"]])
         self.neighbours, self.sides = [], []
-        for s in range(dice.choice([1, 2, 3, 3, 4, 4, 5])):
+        for s in range(dice.choice(counts)):
             near = [t for t in range(s) if dice.random() < 0.7]
             neighbour = dice.choice(near) if near and not (s == 1 and self.coarse) else None
             self.neighbours.append(neighbour)
@@ -29,7 +29,7 @@ class Made:
             self.texts[RETURN_FANS] = self.fans("g", 3)
 
     def some(self, share, line):
-        """The line, in so many of a hundred cases."""
+        """The line, in this percentage of cases."""
         return [line] if self.dice.randrange(100) < share else []
 
     def project(self):

@@ -13,7 +13,7 @@ from exact import Fan, Section, Size, energy, loss, parts, price
 
 
 def rows(text, kind):
-    """The rows of a catalogue behind its header, each number as such."""
+    """The rows of a catalogue after its header, with numbers as numbers."""
     fields = csv.reader(io.StringIO(text))
     next(fields)
     return [kind(*(int(field) if field.lstrip("-").isdigit() else field for field in row)) for row in fields]
@@ -77,7 +77,7 @@ class Project(plain.Network):
         }
 
     def pairs_of(self, s):
-        """The pairs of a section; what a rule refuses first is counted."""
+        """The pairs of a section; counts what each rule is the first to refuse."""
         row, neighbour, found = self.rows[s], self.neighbours[s], {}
         facts = Section(
             self.doc["density"], self.flows[s], 0 if neighbour is None else self.flows[neighbour], row["length"],

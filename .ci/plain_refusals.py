@@ -13,6 +13,8 @@ NAME = re.compile(rb"[A-Za-z0-9_.-]{1,32}")
 WHOLE = re.compile(rb"0|[1-9][0-9]*")
 MARK = b"\xef\xbb\xbf"
 MOST_LEVELS = 80
+MOST_FLOW = 200_000
+MOST_EDITS = 1_000
 
 
 class Refused(Exception):
@@ -339,6 +341,16 @@ def junction_at_fan(section, place):
         raise Refused("section", place, "junction-at-fan")
 
 
+def carried(sections, neighbours):
+    """What each section carries: what is to pass it, and its leak."""
+    passing = [section.get("flow", 0) for section in sections]
+    for s in reversed(range(len(sections))):
+        passing[s] = -(-passing[s] * (1_000 + sections[s].get("leak", 0)) // 1_000)
+        if neighbours[s] is not None:
+            passing[neighbours[s]] += passing[s]
+    return passing
+
+
 def project(data):
     """The tables of the sections."""
     doc = document(data)
@@ -351,13 +363,8 @@ def project(data):
             raise Refused("section", s + 1, "flow-missing")
         if s in neighbours and "flow" in section:
             raise Refused("section", s + 1, "flow-given")
-    passing = [section.get("flow", 0) for section in sections]
-    for s in reversed(range(len(sections))):
-        passing[s] = -(-passing[s] * (1_000 + sections[s].get("leak", 0)) // 1_000)
-        if neighbours[s] is not None:
-            passing[neighbours[s]] += passing[s]
-    for s, flow in enumerate(passing):
-        if flow > 200_000:
+    for s, flow in enumerate(carried(sections, neighbours)):
+        if flow > MOST_FLOW:
             raise Refused("section", s + 1, "flow-too-large")
     return sections
 
@@ -391,12 +398,66 @@ def listed(data, form_line, sections):
             raise Refused("section", place, "unknown-section")
 
 
+# ---- edit scripts
+
+# of each kind of line: the forms of its words, and the key of a section that it changes
+EDITS = {
+    b"length": ([name, number(0, 10 ** 6)], "length"), b"device": ([name, number(0, 20_000)], "device"),
+    b"airflow": ([name, number(1, MOST_FLOW)], "flow"), b"preset": ([name, name], "preset"), b"free": ([name], "preset"),
+}
+
+
+def is_edit(kind, *words):
+    forms, _ = EDITS.get(kind, ([], None))
+    return kind in EDITS and len(words) == len(forms) and all(form(word) for form, word in zip(forms, words))
+
+
+def script(data):
+    """The words of each line."""
+    *lines, rest = data.split(b"\n")
+    if len(lines) > MOST_EDITS or len(lines) == MOST_EDITS and rest:
+        raise Refused("line", MOST_EDITS + 1, "too-many")
+    edits = [line.split(b" ") for line in lines]
+    for place, words in enumerate(edits, 1):
+        if not is_edit(*words):
+            raise Refused("line", place, "form")
+    if rest:
+        raise Refused("line", len(lines) + 1, "form")
+    return edits
+
+
+def edited(sections, catalogue, place, kind, section, *value):
+    """The tables of the sections after the edit of the line in this place."""
+    names = [table["name"].encode() for table in sections]
+    neighbours = tree(sections)
+    if section not in names:
+        raise Refused("line", place, "unknown-section")
+    s = names.index(section)
+    if kind == b"airflow" and s in neighbours:
+        raise Refused("line", place, "flow-given")
+    if kind == b"preset" and catalogue.get(value[0]) != sections[s]["list"].encode():
+        raise Refused("line", place, "unknown-preset")
+    _, key = EDITS[kind]
+    table = {other: held for other, held in sections[s].items() if other != key}
+    for word in value:
+        table[key] = word.decode() if kind == b"preset" else int(word)
+    after = [*sections[:s], table, *sections[s + 1:]]
+    if max(carried(after, neighbours)) > MOST_FLOW:
+        raise Refused("line", place, "flow-too-large")
+    return after
+
+
+def all_edited(sections, catalogue, edits):
+    for place, words in enumerate(edits, 1):
+        sections = edited(sections, catalogue, place, *words)
+
+
 # ---- the files of a command
 
 
 def of_files(command, files, form_line=None):
     """The refusal line of the files of a command, in the order of its words; None where none is refused. `form_line` gives
-    the first bad line of a design text, or None."""
+    the first bad line of a design text, or None. Of `verify` the network alone is read."""
     at = None
 
     def read(word, reader, *more):
@@ -405,11 +466,8 @@ def of_files(command, files, form_line=None):
         return reader(*more)
 
     try:
-        if command in ("pick", "certify"):
+        if command in ("pick", "certify", "verify"):
             read("network", network, files[0])
-        elif command == "verify":
-            read("network", network, files[0])
-            raise Unknown
         elif command == "takeoff":
             sections = read("project", project, files[0])
             read("design", listed, files[1], form_line, sections)
@@ -424,11 +482,15 @@ def of_files(command, files, form_line=None):
             read("friction", friction, files[2], catalogue)
             tables = read("fittings", fittings, files[3])
             read("fans", fans, files[4])
-            if files[5] is not None:
+            if command == "edit":
+                edits = read("script", script, files[5])
+            elif files[5] is not None:
                 read("return-fans", fans, files[5])
             if command == "check":
                 read("design", design, files[6], form_line)
             read("project", joined, sections, catalogue, tables)
+            if command == "edit":
+                read("script", all_edited, sections, catalogue, edits)
     except Refused as refused:
         part, place, reason = refused.args
         return f"refused {at} {part} {place} {reason}\n"

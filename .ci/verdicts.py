@@ -1,4 +1,4 @@
-"""What a design text says otherwise than the design that its names tell (docs/FORMATS.md, "Verdict"), in plain Python.
+"""How a design text differs from the design that its names tell (docs/FORMATS.md, "Verdict"), in plain Python.
 
 `answer` is the whole answer of `check` to the text, with the status, for a network of plain.py or plain_project.py.
 Nothing here is the program's: the design is told by names, and each difference is looked for in the order of the table.
