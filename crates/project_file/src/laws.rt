@@ -18,8 +18,8 @@ use duct_definitions::{
 use fan_points::{MAX_HOURS, MAX_TARIFF, MAX_WORTH};
 
 /// The limits of docs/FORMATS.md, "Project file", as numbers. Density is in g/m3, hours are those of a year, the tariff
-/// in hundredths of a cent per kWh, worth, coefficients and leaks in thousandths, velocity in mm/s, height and length in
-/// mm, pressure in dPa, airflow in l/s.
+/// in hundredths of a cent per kWh, worth, coefficients and leaks in thousandths, velocity in mm/s, height and length
+/// in mm, pressure in dPa, airflow in l/s.
 pub fn limits_as_numbers()
     ensures keys { (length top_keys ≡ 6) × (length energy_keys ≡ 3) × (length limits_keys ≡ 3) }
     ensures section_keys { (length (section_keys One) ≡ 12) × (length (section_keys Two) ≡ 13) }

@@ -16,8 +16,8 @@ use std::alloc::Global;
 use toml::Table;
 use toml_fields::{DocumentError, read_document};
 
-/// The project file in format 2, printed with its keys in order and no line feed behind them: of a file of format 1 with
-/// `leak` 0 in each section, of one of format 2 the same document. The refusals are those of `read_project`.
+/// The project file in format 2, printed with its keys in order and no line feed behind them: of a file of format 1
+/// with `leak` 0 in each section, of one of format 2 the same document. The refusals are those of `read_project`.
 pub fn migrate(alloc: Global, bytes: &[u8]) -> Result<List<u8>, ReadError>
     ensures { GivesAs document_of result (migrating_bytes bytes.now) }
 {

@@ -21,24 +21,8 @@ use std::alloc::Global;
 use toml::Table;
 use toml_fields::{Tables, has_only};
 
-/// The keys of a section's table in both formats.
-const KEYS_OF_BOTH: [&str; 12] = [
-    "name",
-    "side",
-    "neighbour",
-    "length",
-    "list",
-    "local",
-    "junction",
-    "device",
-    "flow",
-    "preset",
-    "velocity",
-    "height",
-];
-
-/// The keys of a section's table in format 2.
-const KEYS_OF_FORMAT_2: [&str; 13] = [
+/// The keys of a section's table. Format 1 has all but the last.
+const KEYS: [&str; 13] = [
     "name",
     "side",
     "neighbour",
@@ -138,7 +122,7 @@ fn has_listed_keys(table: &Table, format: Format) -> bool
     ensures { result ≡ has_only (section_keys format) (table_view table.now) }
 {
     match format {
-        Format::One => has_only(table, &KEYS_OF_BOTH),
-        Format::Two => has_only(table, &KEYS_OF_FORMAT_2),
+        Format::One => has_only(table, &KEYS[..KEYS.len() - 1]),
+        Format::Two => has_only(table, &KEYS),
     }
 }

@@ -23,8 +23,8 @@ pub(crate) struct Top<'t> {
     pub sections: Tables<'t>,
 }
 
-/// The top table, or the first of its rules that is broken: its head, the table `energy`, the table `rules`, and an array
-/// of tables for the sections.
+/// The top table, or the first of its rules that is broken: its head, the table `energy`, the table `rules`, and an
+/// array of tables for the sections.
 pub(crate) fn read_top(document: &Table) -> Result<Top<'_>, Fault>
     ensures value { let doc = table_view document.now in
         ReadsAs top_entry result (unless_refused (first_broken (top_rules doc)) (top_in doc)) }
