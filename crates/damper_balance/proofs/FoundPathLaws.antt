@@ -1,24 +1,22 @@
 -- What slacks, heads and the dampers that are found make of each path.
-use Rattle.std.proofs.Common.{◌≡◌, ℕ, ◌+◌, ◌-◌, ◌<◌, ◌≤◌, inl, inr, List, [], ◌∷◌, map, suc, Option, Some, None, refl, ap, ◌∙◌, sym, subst, arith}
-use Rattle.std.proofs.lemmas.List.Sums.{sum_by-cons}
-use Rattle.std.specs.Prelude.{sum_by, slice_index}
+use Rattle.std.proofs.Common.{◌≡◌, ℕ, ◌+◌, ◌-◌, ◌<◌, ◌≤◌, List, [], ◌∷◌, map, Option, Some, None, refl, ap, ◌∙◌, sym, subst, arith}
+use Rattle.std.specs.Prelude.{slice_index}
 use Rattle.duct_units.specs.declared.side.Side.{Side}
 use Rattle.duct_units.specs.declared.side.Side.TheVariants.{Supply, Return}
 use Rattle.duct_definitions.specs.declared.design.Design.{Design}
-use Rattle.duct_definitions.specs.Tree.{Tree, IsTree, section_count, neighbour, side, way}
+use Rattle.duct_definitions.specs.Tree.{IsTree, section_count, neighbour, side, way}
 use Rattle.duct_definitions.specs.Network.{Network, IsNetwork, fan_at, return_fan_at}
 use Rattle.duct_definitions.specs.Designs.{Covers, Meets, pair_of, loss_of, path_loss}
 use Rattle.duct_definitions.specs.Dampers.{head, head_with, least_of, leaves_beyond, slack, slack_beside, damper}
-use Rattle.duct_definitions.proofs.TreeLaws.{earlier}
 use Rattle.duct_definitions.specs.Balance.{throttled_loss, PathsTake, IsBalancedWith}
-use Rattle.design_laws.proofs.Among.{Among}
-use Rattle.design_laws.proofs.Ways.{along_way}
 use Rattle.design_laws.proofs.Beyond.{is_within}
 use Rattle.design_laws.proofs.Throttled.{paths_take_heads, paths_balanced}
 use Rattle.damper_balance.specs.declared.dampers.Dampers.{Dampers}
 use Rattle.damper_balance.specs.Balance.{AreDampers}
 use Rattle.damper_balance.specs.FoundPaths.{PathsLeaveSlack, DampersTakeSlack, return_pressure, pressure_on, AreWithinPressure, head_found, loss_with, FoundTake, FoundTakeHeads, FoundBalancedWith, IsFoundBalanced}
-use Rattle.damper_balance.proofs.Slacks.{slack-leaf, slack_rises, worst-le-head, path-le-head}
+use Rattle.damper_balance.proofs.LeafBeyond.{on_way_within}
+use Rattle.damper_balance.proofs.NumberLists.{sum_by-each}
+use Rattle.damper_balance.proofs.Slacks.{slack-leaf, slack_beside-le, worst-le-head, path-le-head}
 
 -- a part and what it leaves
 whole_again : (whole part rest : ℕ) → part ≤ whole → rest ≡ whole - part → part + rest ≡ whole
@@ -29,15 +27,6 @@ paths_leave_slack net d valid meets x leaf of_side =
     whole_again (head net d (side net.tree leaf)) (path_loss net d leaf) (slack net d leaf)
     (path-le-head net d leaf meets of_side.leaf) (slack-leaf net d leaf valid.tree of_side.leaf)
     ∙ ap (head net d) of_side.at_side
-
-pub slack_beside-le : (net : Network) (d : Design) (s : ℕ) → IsTree net.tree → s < section_count net.tree
-    → slack_beside net d (neighbour net.tree s) ≤ slack net d s
-slack_beside-le net d s tree within =
-    elim (neighbour net.tree s) as (λ (o : Option ℕ). neighbour net.tree s ≡ o → slack_beside net d o ≤ slack net d
-    s) [
-      | None ↦ λ next. omega arith
-      | Some n ↦ λ next. slack_rises net d s n tree within next
-    ] refl
 
 pub dampers_take_slack : (net : Network) (d : Design) → IsNetwork net → Meets net d → DampersTakeSlack net d
 dampers_take_slack net d valid meets s within =
@@ -79,23 +68,6 @@ within_pressure net d meets = record {
       (head-le net d (side net.tree s) meets)));
 }
 
-sum_by-each : (f g : ℕ → ℕ) (xs : List ℕ) → ((x : ℕ) → Among x xs → f x ≡ g x) → sum_by f xs ≡ sum_by g xs
-sum_by-each f g [] each = refl
-sum_by-each f g (x ∷ xs) each =
-    let left = sum_by-cons f x xs in
-    let right = sum_by-cons g x xs in
-    let here = each x (inl refl) in
-    let rest = sum_by-each f g xs (λ y later. each y (inr later)) in
-    omega arith
-
--- the sections of a way are sections of the tree
-way_within_tree : (t : Tree) (leaf s : ℕ) → IsTree t → leaf < section_count t → Among s (way t leaf)
-    → s < section_count t
-way_within_tree t leaf s tree within among =
-    along_way t tree (λ y. y < section_count t)
-    (λ y n inside next _. let before = earlier t y n tree inside next in omega arith)
-    (suc leaf) leaf (omega arith) within within s among
-
 -- a path takes with the dampers that are found what it takes with the dampers
 loss_with-is : (net : Network) (d : Design) (found : Dampers) (leaf : ℕ) → IsTree net.tree
     → leaf < section_count net.tree
@@ -105,7 +77,7 @@ loss_with-is net d found leaf tree within are =
     (λ s. loss_of (pair_of net d s) + damper net d s)
     (way net.tree leaf)
     (λ s among. ap (λ (n : ℕ). loss_of (pair_of net d s) + n)
-    (are.damper.each s (way_within_tree net.tree leaf s tree within among)))
+    (are.damper.each s (on_way_within net.tree leaf s tree within among)))
 
 head_is : (net : Network) (d : Design) (found : Dampers) (x : Side) → AreDampers net d found
     → head_found found x ≡ head net d x

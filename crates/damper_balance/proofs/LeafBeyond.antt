@@ -1,5 +1,5 @@
--- Leaves and children: every section has a leaf beyond it, and a leaf beyond an inner section is beyond one of its
--- children.
+-- Leaves, children and ways: every section has a leaf beyond it, a leaf beyond an inner section is beyond one of its
+-- children, and a way stays within the tree.
 use Rattle.std.proofs.Common.{◌≡◌, ℕ, zero, suc, ◌+◌, ◌<◌, ◌≤◌, ◌⊎◌, inl, inr, List, [], ◌∷◌, length, true, false, Option, Some, None, refl, ap, ◌∙◌, sym, subst, arith}
 use Rattle.std.proofs.lemmas.Bool.{and_parts, and_from, both_ways, eqb-true, eq-eqb, lt-ltb}
 use Rattle.std.specs.Prelude.{◌&&◌, ◌==◌, nat_lt}
@@ -34,6 +34,14 @@ leaf_or_child t s within =
       | [] ↦ inl (and_from _ _ (lt-ltb s (section_count t) within) refl)
       | c ∷ cs ↦ inr (c, inl refl)
     ]
+
+-- the sections of a way are sections of the tree
+pub on_way_within : (t : Tree) (leaf s : ℕ) → IsTree t → leaf < section_count t → Among s (way t leaf)
+    → s < section_count t
+on_way_within t leaf s tree within among =
+    along_way t tree (λ (y : ℕ). y < section_count t)
+    (λ y n inside next _. let before = earlier t y n tree inside next in omega arith)
+    (suc leaf) leaf (omega arith) within within s among
 
 -- what is beyond a child is beyond the section
 pub IsBeyond-neighbour : (t : Tree) (s c leaf : ℕ) → IsTree t → Among c (children t s) → IsBeyond t c leaf

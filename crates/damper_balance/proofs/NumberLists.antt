@@ -1,11 +1,12 @@
 -- Lists with a number for each section, under walks that write the numbers one by one, and their greatest and least.
-use Rattle.std.proofs.Common.{◌≡◌, ◌≢◌, ℕ, ◌+◌, ◌<◌, ◌≤◌, List, [], ◌∷◌, length, map, max, min, Bool, true, false, cond, inl, inr, Some, refl, ap, ◌∙◌, sym, subst, get_or, set, arith, get_or-set_other, get_or-set_same}
+use Rattle.std.proofs.Common.{◌≡◌, ◌≢◌, ℕ, ◌+◌, ◌<◌, ◌≤◌, List, [], ◌∷◌, length, map, max, min, Bool, true, false, cond, inl, inr, Option, Some, None, refl, ap, ◌∙◌, sym, subst, get_or, set, arith, get_or-set_other, get_or-set_same}
 use Rattle.std.proofs.lemmas.Bool.{cases_eq}
 use Rattle.std.proofs.lemmas.List.{length-set}
-use Rattle.std.specs.Prelude.{filter, fold, slice_index}
+use Rattle.std.proofs.lemmas.List.Sums.{sum-map}
+use Rattle.std.specs.Prelude.{filter, fold, sum, sum_by, slice_index}
 use Rattle.duct_units.specs.declared.side.Side.{Side}
 use Rattle.duct_units.specs.Prices.{lesser}
-use Rattle.duct_definitions.specs.Tree.{Tree, section_count, side, all_leaves, leaves}
+use Rattle.duct_definitions.specs.Tree.{Tree, section_count, at_neighbour, side, all_leaves, leaves}
 use Rattle.duct_units.specs.Side.{same_side}
 use Rattle.duct_definitions.specs.Dampers.{least_of}
 use Rattle.duct_definitions.proofs.SectionLists.{leaves_of_side}
@@ -112,13 +113,21 @@ greatest_of_side t x numbers =
     fold-greater (is_of t x) numbers 0 (all_leaves t)
     ∙ ap (λ ss. fold max 0 (map (λ s. slice_index numbers s) ss)) (leaves_of_side t x)
 
-pub greatest_at-each : (numbers : List ℕ) (f : ℕ → ℕ) (most : ℕ) (ss : List ℕ)
-    → ((s : ℕ) → Among s ss → slice_index numbers s ≡ f s)
-    → fold max most (map (λ s. slice_index numbers s) ss) ≡ fold max most (map f ss)
-greatest_at-each numbers f most [] each = refl
-greatest_at-each numbers f most (s ∷ ss) each =
-    ap (λ m. fold max (max most m) (map (λ x. slice_index numbers x) ss)) (each s (inl refl))
-    ∙ greatest_at-each numbers f (max most (f s)) ss (λ x later. each x (inr later))
+-- what two functions give of the neighbour, where they agree on it
+pub same_beside : (f g : ℕ → ℕ) (o : Option ℕ) → ((n : ℕ) → o ≡ Some n → f n ≡ g n)
+    → at_neighbour f o ≡ at_neighbour g o
+same_beside f g None each = refl
+same_beside f g (Some n) each = each n refl
+
+-- what two functions make of a list, where they agree on its items
+pub map_each : (f g : ℕ → ℕ) (ss : List ℕ) → ((s : ℕ) → Among s ss → f s ≡ g s) → map f ss ≡ map g ss
+map_each f g [] each = refl
+map_each f g (s ∷ ss) each =
+    ap (λ (n : ℕ). n ∷ map f ss) (each s (inl refl))
+    ∙ ap (λ (ns : List ℕ). g s ∷ ns) (map_each f g ss (λ x later. each x (inr later)))
+
+pub sum_by-each : (f g : ℕ → ℕ) (ss : List ℕ) → ((s : ℕ) → Among s ss → f s ≡ g s) → sum_by f ss ≡ sum_by g ss
+sum_by-each f g ss each = sym (sum-map f ss) ∙ ap sum (map_each f g ss each) ∙ sum-map g ss
 
 least_of-first : (a b : ℕ) (rest : List ℕ) → least_of (min a b ∷ rest) ≡ least_of (a ∷ b ∷ rest)
 least_of-first a b [] = refl

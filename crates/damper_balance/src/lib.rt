@@ -9,4 +9,4 @@ pub mod laws;
 mod passes;
 
 pub use dampers::{Dampers, balance};
-pub use passes::{greatest, least_number, less_neighbours, number_beside};
+pub use passes::{Heads, add_along_ways, greatest, throttle};

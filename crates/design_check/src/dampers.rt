@@ -1,32 +1,41 @@
 //! The listed heads and dampers against those of the listed losses, which are the pairs'.
 //!
-//! One list has a number for each section: its path loss, then its slack, then what its damper takes.
+//! One list has a number for each section: its loss, then its path loss, then what its damper takes.
 ghost use Rattle.std.specs.Prelude.{◌≡◌, ◌<◌, ℕ, length, true, IfSome};
 ghost use Rattle.duct_units.specs.declared.side.Side.TheVariants.{Supply, Return};
-ghost use Rattle.duct_definitions.specs.Tree.{section_count, side as side_of};
+ghost use Rattle.duct_definitions.specs.Tree.{section_count};
 ghost use Rattle.duct_definitions.specs.Designs.{Meets, pair_of, loss_of, path_loss, worst};
-ghost use Rattle.duct_definitions.specs.Dampers.{head, slack, damper};
+ghost use Rattle.duct_definitions.specs.Dampers.{head, damper};
 ghost use Rattle.damper_balance.specs.SectionNumbers.{ListsEach};
 ghost use Rattle.design_check.specs.Named.{line_at, named};
 ghost use Rattle.design_check.specs.Verdicts.{fans_agree, covers, heads_agree, first_failing, damper_agrees, loss_agrees};
 
 use crate::names::line_at;
-use damper_balance::{greatest, least_number, less_neighbours, number_beside};
+use damper_balance::{Heads, add_along_ways, greatest, throttle};
 use duct_definitions::Listed;
 use duct_units::Side;
 use net_model::Network;
 
-/// Writes of each section what the sections from it to the fan lose, by the number of its neighbour, which stands
-/// earlier.
-pub(crate) fn path_losses(net: &Network, listed: &Listed, losses: &mut [u64])
+/// Writes of each section what the sections from it to the fan lose.
+pub(crate) fn path_losses(net: &Network, listed: &Listed, numbers: &mut [u64])
     requires lines { length listed.now.sections ≡ section_count net.now.tree }
     requires losses { (s : ℕ) → s < section_count net.now.tree → loss_agrees net.now listed.now s ≡ true }
-    requires count { length losses.old ≡ section_count net.now.tree }
-    ensures { ListsEach net.now.tree (path_loss net.now (named net.now listed.now)) losses.new }
+    requires count { length numbers.old ≡ section_count net.now.tree }
+    ensures { ListsEach net.now.tree (path_loss net.now (named net.now listed.now)) numbers.new }
 {
-    let tree = net.tree();
-    for s in 0..tree.len() {
-        losses[s as usize] = loss_at(net, listed, s) + number_beside(tree, losses, s);
+    losses(net, listed, numbers);
+    add_along_ways(net.tree(), numbers);
+}
+
+/// Writes what each section loses.
+fn losses(net: &Network, listed: &Listed, numbers: &mut [u64])
+    requires lines { length listed.now.sections ≡ section_count net.now.tree }
+    requires losses { (s : ℕ) → s < section_count net.now.tree → loss_agrees net.now listed.now s ≡ true }
+    requires count { length numbers.old ≡ section_count net.now.tree }
+    ensures { ListsEach net.now.tree (λ s. loss_of (pair_of net.now (named net.now listed.now) s)) numbers.new }
+{
+    for s in 0..net.tree().len() {
+        numbers[s as usize] = loss_at(net, listed, s);
     }
 }
 
@@ -111,38 +120,11 @@ pub(crate) fn dampers(net: &Network, listed: &Listed, numbers: &mut [u64])
     requires losses { ListsEach net.now.tree (path_loss net.now (named net.now listed.now)) numbers.old }
     ensures { ListsEach net.now.tree (damper net.now (named net.now listed.now)) numbers.new }
 {
-    slacks(net, listed, numbers);
-    less_neighbours(net.tree(), numbers);
-}
-
-/// Writes the slack of each section in place of its path loss, by the slacks of its children, which stand later.
-fn slacks(net: &Network, listed: &Listed, numbers: &mut [u64])
-    requires meets { Meets net.now (named net.now listed.now) }
-    requires supply { listed.now.supply_head ≡ head net.now (named net.now listed.now) Supply }
-    requires back { listed.now.return_head ≡ head net.now (named net.now listed.now) Return }
-    requires losses { ListsEach net.now.tree (path_loss net.now (named net.now listed.now)) numbers.old }
-    ensures { ListsEach net.now.tree (slack net.now (named net.now listed.now)) numbers.new }
-{
-    let tree = net.tree();
-    for s in (0..tree.len()).rev() {
-        numbers[s as usize] = match least_number(tree.children(s), numbers) {
-            Some(least) => least,
-            None => head_at(net, listed, s) - numbers[s as usize],
-        };
-    }
-}
-
-/// The listed head of the section's side.
-fn head_at(net: &Network, listed: &Listed, s: u32) -> u64
-    requires section { s < section_count net.now.tree }
-    requires supply { listed.now.supply_head ≡ head net.now (named net.now listed.now) Supply }
-    requires back { listed.now.return_head ≡ head net.now (named net.now listed.now) Return }
-    ensures { result ≡ head net.now (named net.now listed.now) (side_of net.now.tree s) }
-{
-    match net.tree().side(s) {
-        Side::Supply => listed.supply_head,
-        Side::Return => listed.return_head,
-    }
+    let heads = Heads {
+        supply: listed.supply_head,
+        back: listed.return_head,
+    };
+    throttle(net.tree(), heads, numbers);
 }
 
 /// The first section whose listed damper isn't this one.

@@ -5,16 +5,14 @@ use Rattle.damper_balance.proofs.dampers.balance.Goals as goal
 pub returns : goal.returns
 returns c =
     let net = c.args.net.now in
-    let heads = c.throttle-heads.ensures.heads in
-    let fills = room_is c.in_ok-pressures.pressures.len c.len.result c.tree.result.now net.tree
-    c.in_ok-pressures.ensures.len
+    let pressures = c.share-found.ensures.pressures in
+    let fills = room_is c.in_ok-numbers.numbers.len c.len.result c.tree.result.now net.tree c.in_ok-numbers.ensures.len
     c.len.ensures.value c.tree.ensures.tree in
     record {
-      supply_worst = heads.supply_worst;
-      supply_head = heads.supply;
-      return_worst = heads.return_worst;
-      return_head = heads.back;
-      damper = ListsEach-written net.tree (damper net c.args.d.now) c.in_ok-pressures.pressures.len
-          c.throttle-heads.new.numbers _
-          c.from_vec.result fills c.throttle-heads.ensures.dampers c.from_vec.ensures;
+      supply_worst = pressures.supply_worst;
+      supply_head = pressures.heads.supply;
+      return_worst = pressures.return_worst;
+      return_head = pressures.heads.back;
+      damper = ListsEach-written net.tree (damper net c.args.d.now) c.in_ok-numbers.numbers.len
+          c.share-found.new.numbers _ c.from_vec.result fills c.share-found.ensures.dampers c.from_vec.ensures;
     }

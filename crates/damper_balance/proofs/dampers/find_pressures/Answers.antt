@@ -2,8 +2,8 @@ use Rattle.std.proofs.Common.{◌≡◌}
 use Rattle.duct_units.specs.declared.side.Side.TheVariants.{Supply, Return}
 use Rattle.duct_definitions.specs.Designs.{worst}
 use Rattle.damper_balance.proofs.FoundDampers.{worst_found}
-use Rattle.damper_balance.proofs.dampers.find_heads.Goals as goal
-use Rattle.damper_balance.proofs.dampers.find_heads.Goals.{After-greatest-return_worst}
+use Rattle.damper_balance.proofs.dampers.find_pressures.Goals as goal
+use Rattle.damper_balance.proofs.dampers.find_pressures.Goals.{After-greatest-return_worst}
 
 return_is : (c : After-greatest-return_worst)
     → c.greatest-return_worst.result ≡ worst c.args.net.now c.args.d.now Return
@@ -12,11 +12,8 @@ return_is c =
     c.greatest-return_worst.result
     c.tree-tree.ensures.tree c.requires.losses c.greatest-return_worst.ensures
 
-pub head-requires-clause-back : goal.head-requires-clause-back
-head-requires-clause-back c = return_is c
-
-pub head-requires-2-clause-back : goal.head-requires-2-clause-back
-head-requires-2-clause-back c = return_is (goal.at.head-requires-2-clause-back c).After-greatest-return_worst
+pub find_heads-requires-clause-back : goal.find_heads-requires-clause-back
+find_heads-requires-clause-back c = return_is c
 
 pub returns : goal.returns
 returns c = record {
@@ -24,7 +21,6 @@ returns c = record {
       worst_found c.args.net.now c.args.d.now Supply c.tree-tree.result.now c.args.losses.now
       c.greatest-supply_worst.result
       c.tree-tree.ensures.tree c.requires.losses c.greatest-supply_worst.ensures;
-  supply = c.head.ensures;
   return_worst = return_is (goal.at.returns c).After-greatest-return_worst;
-  back = c.head-2.ensures;
+  heads = c.find_heads.ensures;
 }

@@ -1,7 +1,0 @@
-use Rattle.std.specs.Prelude.{slice_index}
-use Rattle.duct_definitions.specs.Designs.{path_loss}
-use Rattle.damper_balance.proofs.NumberLists.{IsWrittenTo}
-use Rattle.damper_balance.proofs.passes.path_losses.Given as goal
-
-abbrev pub invariant-loop-s : goal.invariant-loop-s
-invariant-loop-s l = IsWrittenTo l.net.tree (path_loss l.net l.d) (λ s. slice_index l.fn.losses s) l.s l.losses
