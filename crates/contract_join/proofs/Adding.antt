@@ -24,12 +24,12 @@ take-none [] = refl
 take-none (x ∷ xs) = refl
 
 -- no section is added
-pub AreSumOf-none : (net : Network) (g : ℕ) (fronts : List (List Point)) → fronts ≡ [] → AreSumOf net g [] fronts
-AreSumOf-none net g fronts none = subst (AreSumOf net g []) (sym none) (record {
-  value = λ budget in_cap. refl;
-  needs = All-nil (NeedsWithin (cap net));
-  costs = omega arith;
-})
+pub AreSumOf-none : (net : Network) (g : ℕ) (fronts : List (List Point)) → CostsAlike [] fronts → AreSumOf net g [] fronts
+AreSumOf-none net g fronts none = record {
+  value = λ budget in_cap. none.value budget;
+  needs = none.needs (cap net) (All-nil (NeedsWithin (cap net)));
+  costs = (let less = none.costs in omega arith);
+}
 
 module _ (net : Network) (fronts : List (List Point)) (front : List Point) (costs : CostsWithin (most_beyond net) front) where
   -- where there is room, one front more fits

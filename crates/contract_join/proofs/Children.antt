@@ -8,7 +8,7 @@ use Rattle.std.proofs.lemmas.List.Elements.{All-push}
 use Rattle.std.proofs.lemmas.Option.{slice_get_within}
 use Rattle.pareto_front.specs.declared.point.Point.{Point}
 use Rattle.pareto_front.specs.Front.{NeedsWithin, CostsWithin, cheapest}
-use Rattle.pareto_front.specs.FrontSum.{greatest_together, IsTotal}
+use Rattle.pareto_front.specs.FrontSum.{greatest_together, IsTotal, CostsAlike}
 use Rattle.duct_definitions.specs.declared.limits.TheConstants.{MAX_SECTIONS}
 use Rattle.duct_definitions.specs.Tree.{section_count, children}
 use Rattle.duct_definitions.specs.Network.{Network, IsNetwork, size_count, columns, cap}
@@ -25,12 +25,12 @@ use Rattle.contract_join.proofs.Fronts.{front_of-get_or, times-most_beyond}
 -- so many sums of no front
 pub record AreEmpty (sums : List (List (List Point))) (n : ℕ) : Type 0 where
   pub count : length sums ≡ n
-  pub each : All (λ sum. sum ≡ []) sums
+  pub each : All (CostsAlike []) sums
 
-pub AreEmpty-push : (sums : List (List (List Point))) (n : ℕ) (sum : List (List Point)) → AreEmpty sums n → sum ≡ [] → AreEmpty (sums ++ sum ∷ []) (n + 1)
+pub AreEmpty-push : (sums : List (List (List Point))) (n : ℕ) (sum : List (List Point)) → AreEmpty sums n → CostsAlike [] sum → AreEmpty (sums ++ sum ∷ []) (n + 1)
 AreEmpty-push sums n sum are empty = record {
   count = (let more = length_push sums sum in let so_far = are.count in omega arith);
-  each = All-push (λ s. s ≡ []) sums sum are.each empty;
+  each = All-push (CostsAlike []) sums sum are.each empty;
 }
 
 pub IsAdding-none : (net : Network) → IsNetwork net → (s : ℕ) → s < section_count net.tree → (sums : List (List (List Point)))

@@ -34,7 +34,7 @@ pub(crate) fn fronts_beside(
 }
 
 /// How many points the fronts have together.
-fn count_of_points(fronts: &[Front]) -> usize {
+pub(crate) fn count_of_points(fronts: &[Front]) -> usize {
     fronts.iter().fold(
         0,
         |sum: usize, front| sum.saturating_add(front.points().len()),

@@ -99,9 +99,11 @@ fn no_children(alloc: Global, net: &Network, s: u32) -> Result<Vec<FrontSum>, No
 {
     network_is_valid(net);
     let count = net.size_count(s);
+    // Children come one after another. Each is taken to have a point for each size of the section.
+    let points = net.tree().children(s).len().saturating_mul(count as usize);
     let mut sums = Vec::with_capacity(alloc, count as usize)?;
     for _ in 0..count {
-        sums.push(FrontSum::new(alloc))?;
+        sums.push(FrontSum::start(alloc, net.cap(), points)?)?;
     }
     Ok(sums)
 }

@@ -6,6 +6,7 @@ ghost use Rattle.contract_join.specs.SectionFronts.{AreFrontsOf};
 ghost use Rattle.contract_join.specs.SideFront.{IsSideFront};
 ghost use Rattle.contract_join.specs.Join.{AreSumOf, AddsSection, HasRoom};
 
+use crate::close::count_of_points;
 use crate::section_fronts::SectionFronts;
 use duct_units::{NoMemory, Side};
 use net_model::Network;
@@ -42,11 +43,22 @@ fn sum_of_roots(
     ensures { IfOk result (AreSumOf net.now 0 sections.now) }
 {
     network_is_valid(net);
-    let mut sum = FrontSum::new(alloc);
+    let mut sum = FrontSum::start(alloc, net.cap(), points_of(fronts, sections))?;
     for s in sections {
         add_root(alloc, &mut sum, net, *s, fronts)?;
     }
     Ok(sum)
+}
+
+/// How many points the fronts of these sections have together. A section at the fan has one front.
+fn points_of(fronts: &[SectionFronts], sections: &[u32]) -> usize
+    requires { All (λ s. s < length fronts.now) sections.now }
+{
+    let mut count: usize = 0;
+    for s in sections {
+        count = count.saturating_add(count_of_points(fronts[*s as usize].fronts()));
+    }
+    count
 }
 
 /// Adds section `s`, which stands at the fan, with all beyond it.

@@ -5,6 +5,8 @@ pub mod Costs
 pub mod Cuts
 pub mod Even
 pub mod Falls
+pub mod FallsByNeed
+pub mod FallsLaid
 pub mod InOrderLemmas
 pub mod Kept
 pub mod LeastAmong

@@ -67,7 +67,7 @@ module _ (points : List Point) (front : IsFront points) (loss : ℕ) (first last
       subst (λ (p : Point). p.need ≤ (get_or points k d).need) (get_or_from_slice_get points 0 first d first_is)
       (needs_rise points front 0 k d (omega arith) within)
 
-  last_most : All (λ p. p.need ≤ last.need) points
+  pub last_most : All (λ p. p.need ≤ last.need) points
   last_most k d within =
       subst (λ (p : Point). (get_or points k d).need ≤ p.need) (get_or_from_slice_get points (length points - 1) last d last_is)
       (needs_rise points front k (length points - 1) d (omega arith) (omega arith))

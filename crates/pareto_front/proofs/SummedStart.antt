@@ -28,7 +28,7 @@ below_first p ps need i b front read below within =
 from_last : (ps : List Point) (need i b : ℕ) → IsReadTo (need + 1) ps i → need ≤ b → cheapest (take i ps) b ≡ last_cost (take i ps)
 from_last ps need i b read over = cheapest-last (take i ps) b (within_from_below (need + 1) b (take i ps) (omega arith) read.read)
 
-both_of-none : (o : Option ℕ) → both_of o None ≡ None
+pub both_of-none : (o : Option ℕ) → both_of o None ≡ None
 both_of-none None = refl
 both_of-none (Some c) = refl
 

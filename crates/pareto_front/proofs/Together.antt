@@ -1,5 +1,5 @@
 -- Fronts that cost together what others do: two of them in one, and all of them in one.
-use Rattle.std.proofs.Common.{◌≡◌, ℕ, ◌+◌, ◌<◌, ◌≤◌, ◌^◌, refl, ap, sym, ◌∙◌, arith, subst, List, [], ◌∷◌, ◌++◌, length}
+use Rattle.std.proofs.Common.{◌≡◌, ℕ, ◌+◌, ◌<◌, ◌≤◌, ◌^◌, refl, ap, sym, ◌∙◌, arith, subst, List, [], ◌∷◌, ◌++◌, length, Option, Some, None}
 use Rattle.std.specs.Prelude.{All, IfOk, Result, Ok, Err}
 use Rattle.std.specs.Option.{ForSome}
 use Rattle.std.proofs.lemmas.List.{length_push, get_or_append_left, get_or_at}
@@ -8,6 +8,7 @@ use Rattle.std.proofs.lemmas.List.Sums.{sum_by-append}
 use Rattle.duct_units.specs.Prices.{both_of}
 use Rattle.duct_units.proofs.PriceLaws.{both_of-zero, zero-both_of, both_of-assoc}
 use Rattle.pareto_front.specs.declared.point.Point.{Point}
+use Rattle.pareto_front.specs.CostFalls.{fronts_with}
 use Rattle.pareto_front.specs.Front.{NeedsWithin, CostsWithin, cheapest}
 use Rattle.pareto_front.specs.FrontSum.{together, greatest_cost, greatest_together, IsBoth, IsTotal, CostsAlike}
 use Rattle.pareto_front.proofs.Bounds.{sums_fit}
@@ -96,6 +97,46 @@ CostsAlike-push old new front alike = record {
       let is = greatest_together-push new front in
       omega arith);
 }
+
+both_of-comm : (x y : Option ℕ) → both_of x y ≡ both_of y x
+both_of-comm None None = refl
+both_of-comm None (Some y) = refl
+both_of-comm (Some x) None = refl
+both_of-comm (Some x) (Some y) = let same : x + y ≡ y + x = omega arith in ap Some same
+
+-- the last two change places
+CostsAlike-swapped : (rest : List (List Point)) (last front : List Point)
+    → CostsAlike ((rest ++ last ∷ []) ++ front ∷ []) ((rest ++ front ∷ []) ++ last ∷ [])
+CostsAlike-swapped rest last front = record {
+  value = λ budget.
+      let early = together rest budget in
+      let x = cheapest last budget in
+      let y = cheapest front budget in
+      together-push (rest ++ front ∷ []) last budget
+      ∙ ap (λ o. both_of o x) (together-push rest front budget)
+      ∙ both_of-assoc early y x ∙ ap (both_of early) (both_of-comm y x) ∙ sym (both_of-assoc early x y)
+      ∙ ap (λ o. both_of o y) (sym (together-push rest last budget))
+      ∙ sym (together-push (rest ++ last ∷ []) front budget);
+  needs = λ most low.
+      let early = All-early (NeedsWithin most) (rest ++ last ∷ []) front low in
+      All-push (NeedsWithin most) (rest ++ front ∷ []) last
+      (All-push (NeedsWithin most) rest front (All-early (NeedsWithin most) rest last early) (All-last (NeedsWithin most) (rest ++ last ∷ []) front low))
+      (All-last (NeedsWithin most) rest last early);
+  costs =
+      (let one = greatest_together-push rest last in
+      let two = greatest_together-push (rest ++ last ∷ []) front in
+      let other = greatest_together-push rest front in
+      let both = greatest_together-push (rest ++ front ∷ []) last in
+      omega arith);
+}
+
+-- one front more among the parts
+pub CostsAlike-part : (parts new : List (List Point)) (sum : Option (List Point)) (front : List Point) → CostsAlike (parts ++ front ∷ []) new
+    → CostsAlike (fronts_with parts sum ++ front ∷ []) (fronts_with new sum)
+CostsAlike-part parts new None front alike = alike
+CostsAlike-part parts new (Some sum) front alike =
+    CostsAlike-trans ((parts ++ sum ∷ []) ++ front ∷ []) ((parts ++ front ∷ []) ++ sum ∷ []) (new ++ sum ∷ [])
+    (CostsAlike-swapped parts sum front) (CostsAlike-push (parts ++ front ∷ []) new sum alike)
 
 module _ (rest : List (List Point)) (last sum : List Point) where
   -- the last two fit where all do

@@ -1,5 +1,6 @@
 pub mod Cheaper
 pub mod Front
+pub mod CostFalls
 pub mod FrontSum
 pub mod LaidPoints
 pub mod Sweep

@@ -1,20 +1,30 @@
 //! The sum of fronts that are added one by one.
-ghost use Rattle.std.specs.Prelude.{◌≡◌, ◌+◌, ◌<◌, ◌^◌, [], ◌∷◌, ◌++◌, IfOk, IfSome, IfNone};
+ghost use Rattle.std.specs.Prelude.{◌≡◌, ◌+◌, ◌<◌, ◌^◌, [], ◌∷◌, ◌++◌, IfOk, IfSome, IfNone, IsFalse, IsTrue, List};
+ghost use Rattle.std.specs.Option.{ForSome};
+ghost use Rattle.pareto_front.specs.declared.point.Point.{Point};
+ghost use Rattle.pareto_front.specs.CostFalls.{fronts_with};
 ghost use Rattle.pareto_front.specs.FrontSum.{greatest_cost, greatest_together, IsBoth, IsTotal, CostsAlike};
 
+use crate::cost_falls::CostFalls;
 use crate::front::Front;
 use duct_units::NoMemory;
 use std::alloc::Global;
 use std::marker::Model;
 
+/// Of fewer points than one in so many needs the fronts are merged; for more, what the cost falls by is kept by need.
+const FEW: usize = 16;
+
 /// What all fronts that were added cost together. A contract sees fronts that cost the same together.
 ///
-/// A front is added to shorter ones alone, and sums of like length are added into one, as a binary counter carries. So
-/// a long front is moved once, and each point of n fronts of one length about log2(n) times.
+/// Where many points are to come, each is laid once, at its need. What has no place there is merged: a front is added
+/// to shorter ones alone, and sums of like length are added into one, as a binary counter carries. So a long front is
+/// moved once, and each point of n fronts of one length about log2(n) times.
 #[derive(Drop)]
 pub struct FrontSum {
     /// The longer ones first.
     parts: Vec<Front>,
+    /// The sum of the fronts that have a place by need.
+    falls: Option<CostFalls>,
 }
 
 impl Model for FrontSum {
@@ -23,17 +33,28 @@ impl Model for FrontSum {
 
     ghost Value = { Sequence (Sequence Point) };
 
-    ghost view = { λ sum. sum.parts.items };
+    ghost use Rattle.pareto_front.specs.CostFalls.{fronts_with};
+
+    ghost view = { λ sum. fronts_with sum.parts.items sum.falls };
 }
 
 impl FrontSum {
-    /// No front is added yet.
-    pub fn new(alloc: Global) -> FrontSum
-        ensures { result ≡ [] }
+    /// No front is added yet. About `count` points are to come, with needs up to `cap`, dPa.
+    ///
+    /// More points and greater needs are added too, in more time.
+    pub fn start(alloc: Global, cap: u64, count: usize) -> Result<FrontSum, NoMemory>
+        requires { cap + 1 < 2 ^ 32 }
+        ensures { IfOk result (CostsAlike []) }
     {
-        FrontSum {
-            parts: Vec::new(alloc),
+        let needs = cap as usize + 1;
+        let parts = Vec::new(alloc);
+        if count < needs / FEW {
+            return Ok(FrontSum { parts, falls: None });
         }
+        Ok(FrontSum {
+            parts,
+            falls: Some(CostFalls::new(alloc, needs)?),
+        })
     }
 
     /// Adds one more front. When memory runs out the sum can only be dropped.
@@ -41,10 +62,10 @@ impl FrontSum {
         requires { greatest_together (self.old ++ front.now ∷ []) < 2 ^ 64 }
         ensures { IfOk result (λ _. CostsAlike (self.old ++ front.now ∷ []) self.new) }
     {
-        let sum = with_shorter(alloc, &mut self.parts, front)?;
-        let sum = with_last(alloc, &mut self.parts, sum, 0)?;
-        self.parts.push(sum)?;
-        Ok(())
+        if add_by_need(&mut self.falls, front) {
+            return Ok(());
+        }
+        add_part(alloc, &mut self.parts, front)
     }
 
     /// The front of all that is added; of nothing, the one that needs nothing and costs nothing.
@@ -52,9 +73,48 @@ impl FrontSum {
         requires { greatest_together self < 2 ^ 64 }
         ensures { IfOk result (IsTotal self) }
     {
-        let FrontSum { parts } = self;
+        let FrontSum { parts, falls } = self;
+        let parts = all_parts(alloc, parts, falls)?;
         sum_of(alloc, parts)
     }
+}
+
+/// Adds the front by need, if it has a place there.
+fn add_by_need(falls: &mut Option<CostFalls>, front: &Front) -> bool
+    requires { ForSome falls.old (λ sum. greatest_cost sum + greatest_cost front.now < 2 ^ 64) }
+    ensures laid { IsTrue result → (parts : List (List Point)) →
+        CostsAlike (fronts_with parts falls.old ++ front.now ∷ []) (fronts_with parts falls.new) }
+    ensures kept { IsFalse result → falls.new ≡ falls.old }
+{
+    match falls {
+        Some(sum) => sum.add(front),
+        None => false,
+    }
+}
+
+/// Adds the front to the parts.
+fn add_part(alloc: Global, parts: &mut Vec<Front>, front: &Front) -> Result<(), NoMemory>
+    requires { greatest_together (parts.old.items ++ front.now ∷ []) < 2 ^ 64 }
+    ensures { IfOk result (λ _. CostsAlike (parts.old.items ++ front.now ∷ []) parts.new.items) }
+{
+    let sum = with_shorter(alloc, parts, front)?;
+    let sum = with_last(alloc, parts, sum, 0)?;
+    parts.push(sum)?;
+    Ok(())
+}
+
+/// The parts, and the front of what is added by need.
+fn all_parts(
+    alloc: Global,
+    mut parts: Vec<Front>,
+    falls: Option<CostFalls>,
+) -> Result<Vec<Front>, NoMemory>
+    ensures { IfOk result (λ all. all.items ≡ fronts_with parts.items falls) }
+{
+    if let Some(sum) = falls {
+        parts.push(sum.front(alloc)?)?;
+    }
+    Ok(parts)
 }
 
 /// The sum of all fronts.

@@ -4,6 +4,7 @@
 //! and costs less than the one before it.
 #![tactic(auto)]
 
+mod cost_falls;
 mod few_points;
 mod front;
 mod front_sum;

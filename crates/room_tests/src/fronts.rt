@@ -1,9 +1,10 @@
 //! Calls on fronts.
-ghost use Rattle.std.specs.Prelude.{◌≤◌, IsTrue, All};
+ghost use Rattle.std.specs.Prelude.{◌≤◌, IfOk, IsTrue, All};
+ghost use Rattle.pareto_front.specs.FrontSum.{greatest_together};
 
 use duct_units::NoMemory;
 use pareto_front::laws::sums_fit;
-use pareto_front::{Front, Point};
+use pareto_front::{Front, FrontSum, Point};
 use std::alloc::Global;
 use std::test::Fail;
 
@@ -46,6 +47,30 @@ Equal needs: 50 + 40 = 90 at 10, 50 + 20 = 70 at 25, 20 + 20 = 40 at 30.
 
 One ends where the other begins: 20 + 19 = 39 and 20 + 1 = 21.
 30:39 40:21 | 10:50 30:20 both 30:19 40:1
+
+A sum is for needs up to a cap and for so many points: with few it merges, else each point is laid at its need.
+0:0 | 900 0 sum nothing
+0:0 | 40 9 sum nothing
+10:50 30:20 | 900 9 sum 10:50 30:20
+10:50 30:20 | 30 9 sum 10:50 30:20
+none | 40 9 sum none
+none | 40 9 sum 10:50 30:20 + none + 20:7
+
+50 + 7 = 57 and 20 + 7 = 27, with the later one first too, and where a need has no place.
+20:57 30:27 | 900 9 sum 10:50 30:20 + 20:7
+20:57 30:27 | 30 9 sum 10:50 30:20 + 20:7
+20:57 30:27 | 30 9 sum 20:7 + 10:50 30:20
+20:57 30:27 | 29 9 sum 20:7 + 10:50 30:20
+20:57 30:27 | 19 9 sum 20:7 + 10:50 30:20
+
+Equal needs and a shared fall: 50 + 40 + 9 = 99 at 10, 70 + 9 = 79 at 25, 20 + 20 + 5 = 45 at 30, 20 + 20 + 1 = 41.
+10:99 25:79 30:45 31:41 | 900 9 sum 10:50 30:20 + 10:40 25:20 + 10:9 30:5 31:1
+10:99 25:79 30:45 31:41 | 31 9 sum 10:50 30:20 + 10:40 25:20 + 10:9 30:5 31:1
+
+All of two fronts lies below the first need of the third: 20 + 20 + 9 = 49 at 40.
+40:49 41:43 | 900 9 sum 10:50 30:20 + 10:40 25:20 + 40:9 41:3
+40:49 41:43 | 41 9 sum 10:50 30:20 + 10:40 25:20 + 40:9 41:3
+40:49 41:43 | 41 9 sum 40:9 41:3 + 10:50 30:20 + 10:40 25:20
 ";
 
 #[test]
@@ -84,6 +109,9 @@ fn made(alloc: Global, case: &str) -> Result<Front, Fail> {
     if let Some((a, b)) = case.split_once(" either ") {
         return either(alloc, a, b);
     }
+    if let Some((bounds, fronts)) = case.split_once(" sum ") {
+        return sum(alloc, bounds, fronts);
+    }
     let (a, b) = case.split_once(" both ").ok_or("no call")?;
     both(alloc, a, b)
 }
@@ -115,6 +143,36 @@ fn both(alloc: Global, a: &str, b: &str) -> Result<Front, Fail> {
     }
     sums_fit(&a, &b, 100, 100);
     Ok(Front::both(alloc, &a, &b)?)
+}
+
+/// The sum of the fronts, for needs up to a cap and for so many points.
+fn sum(alloc: Global, bounds: &str, fronts: &str) -> Result<Front, Fail> {
+    let (cap, count) = bounds.split_once(' ').ok_or("no count")?;
+    let (cap, count) = (cap.parse::<u16>()?, count.parse::<u16>()?);
+    let mut sum = FrontSum::start(alloc, u64::from(cap), usize::from(count))?;
+    let mut most: u64 = 0;
+    for text in fronts.split(" + ") {
+        if text != "nothing" {
+            let front = front_of(alloc, text)?;
+            most = add_cheap(alloc, &mut sum, &front, most)?;
+        }
+    }
+    if most > 1100 {
+        return Err(Fail::from("too dear"));
+    }
+    Ok(sum.total(alloc)?)
+}
+
+/// Adds the front, where all so far cost no more than this together, cents, and answers what all cost at most.
+fn add_cheap(alloc: Global, sum: &mut FrontSum, front: &Front, most: u64) -> Result<u64, Fail>
+    requires { greatest_together sum.old ≤ most }
+    ensures { IfOk result (λ more. greatest_together sum.new ≤ more) }
+{
+    if most > 1000 || !is_cheap(front) {
+        return Err(Fail::from("too dear"));
+    }
+    sum.add(alloc, front)?;
+    Ok(most + 100)
 }
 
 /// Whether no point costs more than 100 cents, so that nothing overflows.

@@ -1,4 +1,4 @@
-use Rattle.std.proofs.Common.{◌≡◌, ℕ, ◌*◌, ◌<◌, ap, sym, ◌∙◌, subst}
+use Rattle.std.proofs.Common.{ℕ, ◌*◌, ◌<◌, sym, ◌∙◌, subst}
 use Rattle.std.specs.Prelude.{All}
 use Rattle.pareto_front.specs.Front.{NeedsWithin, CostsWithin, cheapest}
 use Rattle.duct_definitions.specs.declared.limits.TheConstants.{MAX_PRICE}

@@ -1,4 +1,4 @@
-use Rattle.std.proofs.Common.{◌≡◌, ◌<◌, ◌++◌, ◌∷◌, [], arith, List}
+use Rattle.std.proofs.Common.{◌++◌, ◌∷◌, [], arith, List}
 use Rattle.std.proofs.lemmas.Result.{IfOk-weaker}
 use Rattle.pareto_front.specs.declared.point.Point.{Point}
 use Rattle.pareto_front.specs.FrontSum.{CostsAlike}

@@ -1,10 +1,27 @@
-use Rattle.std.proofs.Common.{ℕ, subst, List, get_or}
+use Rattle.std.proofs.Common.{ℕ, ◌<◌, arith, subst, sym, List, get_or}
+use Rattle.std.specs.Prelude.{All}
 use Rattle.std.proofs.lemmas.List.{take_all}
 use Rattle.std.proofs.lemmas.Option.{slice_get-get_or}
 use Rattle.contract_join.specs.Join.{AreSumOf}
-use Rattle.contract_join.proofs.Adding.{AreSumOf-next}
+use Rattle.contract_join.proofs.Adding.{take-none, AreSumOf-none, AreSumOf-next}
+use Rattle.contract_join.proofs.Fronts.{cap-le}
 use Rattle.contract_join.proofs.Sides.{first-room}
 use Rattle.contract_join.proofs.side.sum_of_roots.Goals as goal
+
+pub start-requires : goal.start-requires
+start-requires c =
+    let most = cap-le c.args.net.now c.network_is_valid.ensures in
+    let is = c.cap.ensures in
+    omega arith
+
+pub points_of-requires : goal.points_of-requires
+points_of-requires c =
+    subst (λ (n : ℕ). All (λ s. s < n) c.args.sections.now) (sym c.requires.fronts.count) c.requires.in_range
+
+pub loop-s-init : goal.loop-s-init
+loop-s-init c =
+    subst (λ (l : List ℕ). AreSumOf c.args.net.now 0 l c.in_ok-sum.sum) (sym (take-none c.args.sections.now))
+    (AreSumOf-none c.args.net.now 0 c.in_ok-sum.sum c.in_ok-sum.ensures)
 
 pub add_root-requires-clause-in_range : goal.add_root-requires-clause-in_range
 add_root-requires-clause-in_range c = c.requires.in_range c.loop-s.s-index 0 c.loop-s-test.true
