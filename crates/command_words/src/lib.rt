@@ -6,6 +6,7 @@
 
 mod arguments;
 mod commands;
+pub mod laws;
 mod lines;
 mod words;
 mod workers;

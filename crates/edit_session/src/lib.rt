@@ -7,6 +7,7 @@
 mod catalogues;
 mod condensing;
 mod limits;
+pub mod laws;
 mod making;
 mod rebuilding;
 mod session;
