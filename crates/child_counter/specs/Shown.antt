@@ -81,16 +81,16 @@ pub record IsView (net : Network) (state : State) (views : List PassView) (v : P
   pub noted : (s : ℕ) → is_in v.noted s ≡ true → is_claimed net.tree state s ≡ true
   pub lent : (o : Outcome) → v.out ≡ Some o → IsLent net v o × IsPublished views o
 
--- The slot of an unclaimed section is home and empty. The slot of a turn's own section is out, and so is that of a child
--- that a turn has out. The slot of any other done section is home and holds what came of it.
+-- The slot of an unclaimed section is home and empty. The slot of a turn's own section is out, and so is that of a
+-- child that a turn has out. The slot of any other done section is home and holds what came of it.
 pub record IsSlot (net : Network) (state : State) (views : List PassView) (s : ℕ) (slot : Slot) : Type 0 where
   pub empty : is_claimed net.tree state s ≡ false → slot ≡ some (some None)
   pub out : 0 < turns views s + outs views s → slot ≡ some none
   pub full : is_in state.done s ≡ true → outs views s ≡ 0
       → (o : Outcome) × (slot ≡ some (some (Some o))) × IsOutcomeOf net s o × IsPublished views o
 
--- The words, the slots and the passes show the state. A section that is done stands in one list of one pass, once, and no
--- other stands in any. A section that is claimed and not done is the turn of one pass, and no other is anybody's.
+-- The words, the slots and the passes show the state. A section that is done stands in one list of one pass, once, and
+-- no other stands in any. A section that is claimed and not done is the turn of one pass, and no other is anybody's.
 pub record Shows (net : Network) (passes : ℕ) (state : State) (words : List ℕ) (homes : Homes)
     (views : List PassView) : Type 0 where
   pub reached : IsReached net.tree state

@@ -15,8 +15,8 @@ use net_model::Network;
 use std::alloc::Global;
 
 impl<'n> Counters<'n> {
-    /// Counters of a network whose sections are all open, and so many passes, each of one part. All room that claims and
-    /// finishes need is taken here.
+    /// Counters of a network whose sections are all open, and so many passes, each of one part. All room that claims
+    /// and finishes need is taken here.
     pub fn start(
         alloc: Global,
         net: &'n Network,

@@ -69,7 +69,8 @@ pub record Begins (Is : List ℕ → Type 0) (n : ℕ) (bytes : List ℕ) : Type
   pub rest : List ℕ
   pub is : Is (lines ++ rest)
 
--- a text of this kind begins with the lines before line n, and none with line n; bytes that end early have no line there
+-- a text of this kind begins with the lines before line n, and none with line n; bytes that end early have no line
+-- there
 pub record IsFirstBad (Is : List ℕ → Type 0) (n : ℕ) (bytes : List ℕ) : Type 0 where
   pub before : (i : ℕ) → i < n → Begins Is i bytes
   pub bad : Begins Is n bytes → ⊥

@@ -27,8 +27,8 @@ pub fn print(
     text_of(alloc, &listed(alloc, net, d, dampers)?)
 }
 
-/// The text of a network of this name in which no design meets the rules, with how many pairs of sizes each rule refused;
-/// no rules where none was asked.
+/// The text of a network of this name in which no design meets the rules, with how many pairs of sizes each rule
+/// refused; no rules where none was asked.
 pub fn print_none(alloc: Global, name: &Name, refusals: &[RuleCount]) -> Result<List<u8>, NoMemory>
     ensures { IfOk result (λ answer. answer ≡ none_text name.now refusals.now) }
 {

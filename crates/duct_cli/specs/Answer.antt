@@ -42,8 +42,8 @@ AnswersNetwork bytes status answer =
     (λ net. AnswersDesign net [] status answer)
     (λ fault. Says REFUSED (refusal_line network_file fault) status answer)
 
--- the answer for the bytes of a project file that is to be migrated: a text of the migrated document, whose keys stand in
--- any order
+-- the answer for the bytes of a project file that is to be migrated: a text of the migrated document, whose keys stand
+-- in any order
 abbrev pub AnswersMigration : List ℕ → ℕ → List ℕ → Type 0
 AnswersMigration bytes status answer =
     MatchResult (migrating_bytes bytes)

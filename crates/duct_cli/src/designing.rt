@@ -80,8 +80,8 @@ impl<'b> DesignBytes<'b> {
     }
 }
 
-/// The network of the files, with how many pairs each rule refused; or the first refusal: of the files in the order of the
-/// words, and then the first name that joins nothing.
+/// The network of the files, with how many pairs each rule refused; or the first refusal: of the files in the order of
+/// the words, and then the first name that joins nothing.
 pub fn network_of_files<R: SizeRule>(
     alloc: Global,
     bytes: &DesignBytes<'_>,
@@ -95,8 +95,8 @@ pub fn network_of_files<R: SizeRule>(
     join(alloc, &read, rules)
 }
 
-/// The network of the files and the fields of a design text; or the first refusal: of the files in the order of the words,
-/// the text last, and then the first name that joins nothing.
+/// The network of the files and the fields of a design text; or the first refusal: of the files in the order of the
+/// words, the text last, and then the first name that joins nothing.
 pub fn network_and_text<R: SizeRule>(
     alloc: Global,
     bytes: &DesignBytes<'_>,

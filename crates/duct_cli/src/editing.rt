@@ -158,7 +158,8 @@ fn answer_lines<R: SizeRule>(
     }
 }
 
-/// Adds the text of the project as it is now, `again` sections of which were condensed for it, and those after each line.
+/// Adds the text of the project as it is now, `again` sections of which were condensed for it, and those after each
+/// line.
 fn add_steps<R: SizeRule>(
     alloc: Global,
     text: &mut Vec<u8>,

@@ -11,8 +11,8 @@ use duct_ports::{Files, Gate, SureFiles, SureSink};
 use std::alloc::Global;
 use std::thread::Threads;
 
-/// The same words over the same files have one answer: one status, and one text, or texts of one document where a project
-/// is migrated.
+/// The same words over the same files have one answer: one status, and one text, or texts of one document where a
+/// project is migrated.
 pub fn answer_is_one()
     ensures { (rules : Rules) → (words : List (List ℕ)) → (contents : List ℕ → List ℕ) → (s t : ℕ) → (text other : List ℕ)
         → IsAnswer rules words contents s text → IsAnswer rules words contents t other → (s ≡ t) × AreOneText (command_of words) text other }

@@ -1,7 +1,8 @@
-//! `duct_cli` picks catalogue sizes and a fan for an air system, or a fan for each side, so that no choice that meets the
-//! rules costs less. It also migrates project files to format 2, and makes friction files.
+//! `duct_cli` picks catalogue sizes and a fan for an air system, or a fan for each side, so that no choice that meets
+//! the rules costs less. It also migrates project files to format 2, and makes friction files.
 //!
-//! The program has no logic of its own: it hands its arguments, the disk, the standard output, four rules and an open gate to `run`.
+//! The program has no logic of its own: it hands its arguments, the disk, the standard output, four rules and an open
+//! gate to `run`.
 #![tactic(auto)]
 
 mod answers;

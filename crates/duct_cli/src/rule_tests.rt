@@ -13,8 +13,8 @@ use std::alloc::Global;
 use std::test::Fail;
 use std::thread::Threads;
 
-/// A project whose air is faster than 7 m/s in five of nine pairs with friction: `main` in R2, and `left` and `right` in R1
-/// beside both sizes of `main`.
+/// A project whose air is faster than 7 m/s in five of nine pairs with friction: `main` in R2, and `left` and `right`
+/// in R1 beside both sizes of `main`.
 const PROJECT: &str = r#"format = 1
 name = "small"
 density = 1200
@@ -183,7 +183,8 @@ fn a_design_needs_each_of_its_reads(rt: HostRuntime) -> Result<(), Fail> {
     Ok(())
 }
 
-/// The status and the text of `design` on the project by the rules, where `limit` stands in place of its velocity limit.
+/// The status and the text of `design` on the project by the rules, where `limit` stands in place of its velocity
+/// limit.
 fn designed<T: Threads + Sync + AllocGlobal, R: SizeRule>(
     rt: &T,
     limit: &str,

@@ -58,8 +58,8 @@ pub record IsMadeOf (p : Project) (c : CataloguesData) (fans : List FanRow) (rul
   pub most : All (CountsWithin MAX_SECTION_ASKED) made.counts
   pub refusals : made.refusals ≡ refusals p c rules names
 
--- a project whose names all join something, with what is made of it under these rules; and no rule has counted more than
--- it is asked in so many edits
+-- a project whose names all join something, with what is made of it under these rules; and no rule has counted more
+-- than it is asked in so many edits
 pub record IsUpToDate {B : Type 0} (allows : B → Meaning) (label : B → List ℕ) (count : B → ℕ) (rules : List B) (s : State) : Type 0 where
   pub project : IsProject s.project
   pub friction : HasFriction s.catalogues.sizes s.catalogues.friction

@@ -96,7 +96,7 @@ impl Condensed {
     }
 }
 
-// The fronts of all sections and the best design, by 1 to 32 workers.
+/// The fronts of all sections and the best design, by 1 to 32 workers.
 fn all_condensed<R: Threads + Sync, G: Gate>(
     rt: &R,
     alloc: Global,
@@ -114,7 +114,7 @@ fn all_condensed<R: Threads + Sync, G: Gate>(
     Ok((released(alloc, net, fronted.scatter())?, best))
 }
 
-// The fronts of all sections and the best design, where the touched sections alone are condensed.
+/// The fronts of all sections and the best design, where the touched sections alone are condensed.
 fn touched_condensed(
     alloc: Global,
     net: &Network,
@@ -133,7 +133,7 @@ fn touched_condensed(
     Ok((released(alloc, net, fronts)?, best))
 }
 
-// The best design of the network, by the fronts of its sections.
+/// The best design of the network, by the fronts of its sections.
 fn best_design(
     alloc: Global,
     net: &Network,
@@ -148,7 +148,7 @@ fn best_design(
     best_of(alloc, net, fronts, &supply, &back)
 }
 
-// The fronts of all sections, in order; those of sections that aren't touched are the kept ones.
+/// The fronts of all sections, in order; those of sections that aren't touched are the kept ones.
 fn all_fronts<'n>(
     alloc: Global,
     net: &'n Network,
@@ -174,7 +174,7 @@ fn all_fronts<'n>(
     Ok(List::from_vec(fronts))
 }
 
-// The fronts of section `s`: condensed again where it is touched, and else the kept ones.
+/// The fronts of section `s`: condensed again where it is touched, and else the kept ones.
 fn front_of<'n>(
     alloc: Global,
     net: &'n Network,
@@ -196,7 +196,7 @@ fn front_of<'n>(
     }
 }
 
-// The fronts of section `s`, from those of its children.
+/// The fronts of section `s`, from those of its children.
 fn condensed_section<'n>(
     alloc: Global,
     net: &'n Network,
@@ -219,7 +219,7 @@ fn condensed_section<'n>(
     join.close(alloc)
 }
 
-// The fronts of section `c` among those of all sections after `s`.
+/// The fronts of section `c` among those of all sections after `s`.
 fn fronts_in<'a, 'n>(
     net: &Network,
     s: u32,
@@ -235,7 +235,7 @@ fn fronts_in<'a, 'n>(
     &later[(net.tree().len() - 1 - c) as usize]
 }
 
-// The fronts of all sections, let go of their network.
+/// The fronts of all sections, let go of their network.
 fn released(
     alloc: Global,
     net: &Network,

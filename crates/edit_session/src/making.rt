@@ -1,4 +1,5 @@
-//! What is made of a project: its network with exact fronts, and the rules' counts; from scratch, or anew after an edit.
+//! What is made of a project: its network with exact fronts, and the rules' counts; from scratch, or anew after an
+//! edit.
 ghost use Rattle.std.specs.Prelude.{◌≡◌, ℕ, ◌<◌, ◌-◌, ◌≤◌, ◌==◌, None, length, map, slice_index, All, IfOk, MatchResult};
 ghost use Rattle.duct_units.specs.Rules.{Fails, first_broken, unless_refused};
 ghost use Rattle.duct_definitions.specs.Airflow.{fan_flow};
@@ -79,8 +80,8 @@ pub(crate) fn make<R: SizeRule, T: Threads + Sync, G: Gate>(
     })
 }
 
-/// What is made of the project after the edit, whose touched sections alone are built and condensed again; and these, in
-/// rising number.
+/// What is made of the project after the edit, whose touched sections alone are built and condensed again; and these,
+/// in rising number.
 pub(crate) fn make_again<R: SizeRule>(
     alloc: Global,
     before: &Project,
@@ -130,7 +131,7 @@ pub(crate) fn make_again<R: SizeRule>(
     Ok((made, touched))
 }
 
-// The network of the project after the edit, condensed, and the rules' counts in each section.
+/// The network of the project after the edit, condensed, and the rules' counts in each section.
 fn condensed_again<R: SizeRule>(
     alloc: Global,
     before: &Project,

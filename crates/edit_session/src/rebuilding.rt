@@ -80,7 +80,7 @@ pub(crate) fn rebuilt<R: SizeRule>(
     Ok((net, counts))
 }
 
-// The pairs of all sections and the rules' counts in each, from those of the sections that aren't touched.
+/// The pairs of all sections and the rules' counts in each, from those of the sections that aren't touched.
 fn pairs_again<R: SizeRule>(
     alloc: Global,
     project: &Project,
@@ -125,7 +125,7 @@ fn pairs_again<R: SizeRule>(
     Ok((List::from_vec(pairs), List::from_vec(counts)))
 }
 
-// The pairs of section `s` and the rules' counts in it.
+/// The pairs of section `s` and the rules' counts in it.
 fn section_again<R: SizeRule>(
     alloc: Global,
     project: &Project,

@@ -145,7 +145,7 @@ impl<R: SizeRule> Session<R> {
         self.state().made.condensed.best()
     }
 
-    // What the session holds beside the rules.
+    /// What the session holds beside the rules.
     fn state(&self) -> &State
         requires { IsCurrent R.allows R.label R.count self.now.rules.items self.now.state }
         ensures { self.now.state ≡ Some result.now }
@@ -157,7 +157,7 @@ impl<R: SizeRule> Session<R> {
     }
 }
 
-// The project of the state after the edit.
+/// The project of the state after the edit.
 fn changed(alloc: Global, state: &Option<State>, edit: &Edit) -> Result<Project, EditError>
     requires project { IfSome state.now (λ s. IsProject s.project) }
     requires section { IfSome (basis state.now) (λ now. edit.now.section < section_count now.project.tree) }

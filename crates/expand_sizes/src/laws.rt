@@ -27,8 +27,8 @@ pub fn choice_of_side_fronts_is_best(net: &Network, supply: &Front, back: &Front
     choice_depends_on_budgets_up_to_cap();
 }
 
-/// Where nothing is priced with fronts that tell the least price of each side, no design meets the rules, and no fans have
-/// a cost by the least prices.
+/// Where nothing is priced with fronts that tell the least price of each side, no design meets the rules, and no fans
+/// have a cost by the least prices.
 pub fn nothing_priced_is_no_design(net: &Network, supply: &Front, back: &Front)
     requires supply { (budget : ℕ) → budget ≤ cap net.now →
         cheapest supply.now budget ≡ side_least net.now supply_side budget }

@@ -27,7 +27,8 @@ preset_place sizes list name =
 abbrev pub table_of_row : Catalogues → SectionRow → Option ℕ
 table_of_row c row = option_and_then (λ name. place_of name c.fittings.names) row.junction
 
--- the place, in the section's list, of the size that it presets; none where it presets none, or the list has no such size
+-- the place, in the section's list, of the size that it presets; none where it presets none, or the list has no such
+-- size
 abbrev pub preset_of_row : Catalogues → SectionRow → Option ℕ
 preset_of_row c row = option_and_then (preset_place c.sizes row.list) row.preset
 

@@ -90,7 +90,7 @@ pub(crate) fn section_pairs<R: SizeRule>(
     Ok(List::from_vec(pairs))
 }
 
-// Size k of the section, with what it loses by itself and what it costs.
+/// Size k of the section, with what it loses by itself and what it costs.
 fn chosen_size(catalogues: &Catalogues<'_>, section: &SectionSizes, k: u32) -> ChosenSize
     requires open { IsOpen catalogues.now section.now }
     requires size { k < length section.now.numbers }
@@ -109,7 +109,7 @@ fn chosen_size(catalogues: &Catalogues<'_>, section: &SectionSizes, k: u32) -> C
     }
 }
 
-// The pairs of the section in one size, added to those of the sizes before it.
+/// The pairs of the section in one size, added to those of the sizes before it.
 fn add_pairs<R: SizeRule>(
     catalogues: &Catalogues<'_>,
     section: &SectionSizes,
@@ -140,7 +140,7 @@ fn add_pairs<R: SizeRule>(
     Ok(())
 }
 
-// The section in the size beside its neighbour's size g; None where the pair isn't permitted.
+/// The section in the size beside its neighbour's size g; None where the pair isn't permitted.
 fn pair_beside<R: SizeRule>(
     catalogues: &Catalogues<'_>,
     section: &SectionSizes,
@@ -175,7 +175,7 @@ fn pair_beside<R: SizeRule>(
     }
 }
 
-// Whether the size has friction at the airflow of the section.
+/// Whether the size has friction at the airflow of the section.
 fn has_friction(catalogues: &Catalogues<'_>, section: &SectionSizes, size: &ChosenSize) -> bool
     requires { size.now ≡ chosen catalogues.now section.now size.now.place }
     ensures { result ≡ has_friction catalogues.now section.now size.now.place }
@@ -183,7 +183,7 @@ fn has_friction(catalogues: &Catalogues<'_>, section: &SectionSizes, size: &Chos
     size.own_loss.is_some()
 }
 
-// What the section loses and costs in the size beside its neighbour's size g; None without friction.
+/// What the section loses and costs in the size beside its neighbour's size g; None without friction.
 fn possible_pair(
     catalogues: &Catalogues<'_>,
     section: &SectionSizes,
@@ -208,7 +208,7 @@ fn possible_pair(
     })
 }
 
-// The number of what stands beside the section in place g; None at the fan.
+/// The number of what stands beside the section in place g; None at the fan.
 fn beside_at(catalogues: &Catalogues<'_>, section: &SectionSizes, g: u32) -> Option<u32>
     requires open { IsOpen catalogues.now section.now }
     requires beside { g < length section.now.besides }
@@ -218,7 +218,7 @@ fn beside_at(catalogues: &Catalogues<'_>, section: &SectionSizes, g: u32) -> Opt
     section.besides.as_slice()[g as usize]
 }
 
-// What the section costs in the size beside the size with the number, cents.
+/// What the section costs in the size beside the size with the number, cents.
 fn price_beside(size: &ChosenSize, beside: Option<u32>) -> u64
     requires { IsChosen size.now }
     ensures value { result ≡ (if is_stepped size.now.number beside then size.now.stepped_price else size.now.price) }
@@ -231,7 +231,7 @@ fn price_beside(size: &ChosenSize, beside: Option<u32>) -> u64
     }
 }
 
-// What the section's junction loses beside the size with the number, dPa.
+/// What the section's junction loses beside the size with the number, dPa.
 fn junction_loss(
     catalogues: &Catalogues<'_>,
     section: &SectionSizes,
@@ -253,7 +253,7 @@ fn junction_loss(
     }
 }
 
-// What rules are told of the section in the size beside its neighbour's size g.
+/// What rules are told of the section in the size beside its neighbour's size g.
 fn told(catalogues: &Catalogues<'_>, section: &SectionSizes, size: &ChosenSize, g: u32) -> PairFacts
     requires open { IsOpen catalogues.now section.now }
     requires size { size.now ≡ chosen catalogues.now section.now size.now.place }
@@ -270,7 +270,7 @@ fn told(catalogues: &Catalogues<'_>, section: &SectionSizes, size: &ChosenSize, 
     }
 }
 
-// The area of the size with the number, mm2; 0 at the fan.
+/// The area of the size with the number, mm2; 0 at the fan.
 fn area_beside(catalogues: &Catalogues<'_>, beside: Option<u32>) -> u64
     requires { ForSome beside (λ n. n < length catalogues.now.sizes.sizes) }
     ensures { result ≡ area_beside catalogues.now beside }
@@ -281,7 +281,7 @@ fn area_beside(catalogues: &Catalogues<'_>, beside: Option<u32>) -> u64
     }
 }
 
-// Whether every rule allows the facts; the first refusal is counted.
+/// Whether every rule allows the facts; the first refusal is counted.
 fn ask<R: SizeRule>(rules: &mut Vec<R>, refusals: &mut Vec<RuleCount>, facts: &PairFacts) -> bool
     requires few { length rules.old.items ≤ MAX_RULES }
     requires long { length refusals.old.items ≡ length rules.old.items }

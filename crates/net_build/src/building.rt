@@ -109,7 +109,7 @@ pub fn build<R: SizeRule>(
     build_with(alloc, project, sizes, friction, fittings, fans, &mut kept)
 }
 
-// The network of these sections, pairs and fans.
+/// The network of these sections, pairs and fans.
 fn network(
     alloc: Global,
     project: &Project,
@@ -133,7 +133,7 @@ fn network(
     ))
 }
 
-// The names of the sections, in order.
+/// The names of the sections, in order.
 fn section_names(alloc: Global, rows: &[SectionRow]) -> Result<List<Name>, NoMemory>
     ensures { IfOk result (λ names. names ≡ map (λ row. row.name) rows.now) }
 {
@@ -144,7 +144,7 @@ fn section_names(alloc: Global, rows: &[SectionRow]) -> Result<List<Name>, NoMem
     Ok(List::from_vec(names))
 }
 
-// The names of the sizes that each section may have.
+/// The names of the sizes that each section may have.
 fn all_size_names(
     alloc: Global,
     catalogues: &Catalogues<'_>,
@@ -160,7 +160,7 @@ fn all_size_names(
     Ok(List::from_vec(names))
 }
 
-// The names of the sizes with these numbers.
+/// The names of the sizes with these numbers.
 fn size_names(
     alloc: Global,
     catalogues: &Catalogues<'_>,

@@ -90,7 +90,7 @@ pub(crate) fn all_built<R: SizeRule>(
     Ok((List::from_vec(pairs), List::from_vec(refusals)))
 }
 
-// The pairs of the section, and how many of them each rule refused.
+/// The pairs of the section, and how many of them each rule refused.
 fn built_section<R: SizeRule>(
     alloc: Global,
     catalogues: &Catalogues<'_>,
@@ -135,7 +135,7 @@ pub fn count_together<R: SizeRule>(
     Ok(List::from_vec(refusals))
 }
 
-// How many pairs of all sections rule i refused.
+/// How many pairs of all sections rule i refused.
 fn count_of_rule(sections: &[Refusals], i: usize) -> u64
     requires sections { length sections.now ≤ MAX_SECTIONS }
     requires most { All (CountsWithin MAX_SECTION_ASKED) sections.now }
@@ -148,7 +148,7 @@ fn count_of_rule(sections: &[Refusals], i: usize) -> u64
     count
 }
 
-// How many pairs of a section rule i refused; 0 where there is no such rule.
+/// How many pairs of a section rule i refused; 0 where there is no such rule.
 fn count_in(refusals: &[RuleCount], i: usize) -> u64
     ensures { result ≡ count_of i refusals.now }
 {

@@ -131,7 +131,7 @@ pub fn place_in_list(
     Ok(place_of_size(sizes, numbers.as_slice(), size))
 }
 
-// The numbers of the sizes of the list with the name, rising; none where no list has it.
+/// The numbers of the sizes of the list with the name, rising; none where no list has it.
 fn numbers_named(alloc: Global, sizes: &Sizes, list: &Name) -> Result<List<u32>, NoMemory>
     ensures value { IfOk result (λ numbers. numbers ≡ numbers_named sizes.now list.now) }
     ensures within { IfOk result (All (λ n. n < length sizes.now.sizes)) }
@@ -143,7 +143,7 @@ fn numbers_named(alloc: Global, sizes: &Sizes, list: &Name) -> Result<List<u32>,
     }
 }
 
-// The place, among these numbers, of the size with the name.
+/// The place, among these numbers, of the size with the name.
 fn place_of_size(sizes: &Sizes, numbers: &[u32], name: &Name) -> Option<u32>
     requires { length numbers.now ≤ MAX_LIST_SIZES }
     ensures { result ≡ option_and_then (λ number. place_among number numbers.now) (place_of name.now (names_of sizes.now.sizes)) }
@@ -152,7 +152,7 @@ fn place_of_size(sizes: &Sizes, numbers: &[u32], name: &Name) -> Option<u32>
     place_among(numbers, number)
 }
 
-// The place, from 0, of the number among the numbers.
+/// The place, from 0, of the number among the numbers.
 fn place_among(numbers: &[u32], number: u32) -> Option<u32>
     requires { length numbers.now ≤ MAX_LIST_SIZES }
     ensures { result ≡ place_among number numbers.now }
@@ -170,7 +170,7 @@ fn position_of(numbers: &[u32], number: u32) -> Option<usize>
     numbers.iter().position(|n| *n == number)
 }
 
-// The numbers of the sizes of the list, rising.
+/// The numbers of the sizes of the list, rising.
 fn numbers_of(alloc: Global, sizes: &Sizes, list: u32) -> Result<List<u32>, NoMemory>
     requires { list < length sizes.now.lists }
     ensures value { IfOk result (λ numbers. numbers ≡ numbers_of list sizes.now.sizes) }

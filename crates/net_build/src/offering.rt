@@ -28,7 +28,7 @@ pub fn offer(
     Ok(List::from_vec(offer))
 }
 
-// Adds the fan at its cost, where it serves the airflow.
+/// Adds the fan at its cost, where it serves the airflow.
 fn add_fan(offer: &mut Vec<NetFan>, fan: &FanRow, terms: &Energy, flow: u64) -> Result<(), NoMemory>
     requires fan { IsFanRow fan.now }
     requires terms { IsEnergy terms.now }
@@ -42,7 +42,7 @@ fn add_fan(offer: &mut Vec<NetFan>, fan: &FanRow, terms: &Energy, flow: u64) -> 
     Ok(())
 }
 
-// The fan at its price and the cost of its energy.
+/// The fan at its price and the cost of its energy.
 fn fan_at_cost(fan: &FanRow, terms: &Energy) -> NetFan
     requires fan { IsFanRow fan.now }
     requires terms { IsEnergy terms.now }

@@ -78,7 +78,7 @@ pub(crate) fn section_sizes(
     })
 }
 
-// The number of the fitting table of the section's junction.
+/// The number of the fitting table of the section's junction.
 fn table_of(catalogues: &Catalogues<'_>, row: &SectionRow) -> Option<u32>
     ensures value { result ≡ table_of_row catalogues.now row.now }
     ensures within { IfSome result (λ table. table < length catalogues.now.fittings.grids) }
@@ -87,7 +87,7 @@ fn table_of(catalogues: &Catalogues<'_>, row: &SectionRow) -> Option<u32>
     catalogues.table(&name)
 }
 
-// The place, in the section's list, of the size that it presets.
+/// The place, in the section's list, of the size that it presets.
 fn preset_of(catalogues: &Catalogues<'_>, row: &SectionRow, numbers: &[u32]) -> Option<u32>
     requires list { numbers.now ≡ numbers_named catalogues.now.sizes row.now.list }
     requires few { length numbers.now ≤ MAX_LIST_SIZES }
@@ -97,7 +97,7 @@ fn preset_of(catalogues: &Catalogues<'_>, row: &SectionRow, numbers: &[u32]) -> 
     catalogues.place(numbers, &name)
 }
 
-// The fault of the first name of section n, counted from 1, that joins nothing.
+/// The fault of the first name of section n, counted from 1, that joins nothing.
 fn broken_rule(
     catalogues: &Catalogues<'_>,
     n: u32,
@@ -121,7 +121,7 @@ fn broken_rule(
     None
 }
 
-// What the losses of section `s` come from.
+/// What the losses of section `s` come from.
 fn section_facts(
     project: &Project,
     catalogues: &Catalogues<'_>,
@@ -149,7 +149,7 @@ fn section_facts(
     }
 }
 
-// The airflow of the neighbour of section `s`, l/s; 0 at the fan.
+/// The airflow of the neighbour of section `s`, l/s; 0 at the fan.
 fn neighbour_flow(project: &Project, s: u32) -> u64
     requires project { IsProject project.now }
     requires section { s < section_count project.now.tree }
@@ -161,7 +161,7 @@ fn neighbour_flow(project: &Project, s: u32) -> u64
     }
 }
 
-// What rules are told of section `s` whatever its size.
+/// What rules are told of section `s` whatever its size.
 fn told_of_any(
     project: &Project,
     catalogues: &Catalogues<'_>,
@@ -191,7 +191,7 @@ fn told_of_any(
     }
 }
 
-// The numbers of the sizes that may stand beside section `s`.
+/// The numbers of the sizes that may stand beside section `s`.
 fn besides(
     alloc: Global,
     project: &Project,
@@ -210,7 +210,7 @@ fn besides(
     }
 }
 
-// The numbers of the sizes of the neighbour.
+/// The numbers of the sizes of the neighbour.
 fn numbers_beside(
     alloc: Global,
     project: &Project,
@@ -228,7 +228,7 @@ fn numbers_beside(
     all_there(alloc, numbers.as_slice())
 }
 
-// Each number, as one that is there.
+/// Each number, as one that is there.
 fn all_there(alloc: Global, numbers: &[u32]) -> Result<List<Option<u32>>, NoMemory>
     ensures { IfOk result (λ there. there ≡ map (λ number. Some number) numbers.now) }
 {

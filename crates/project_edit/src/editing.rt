@@ -54,7 +54,7 @@ pub fn edited(
     })
 }
 
-// Whether the named section is a leaf, where it is given an airflow.
+/// Whether the named section is a leaf, where it is given an airflow.
 fn suits_leaf(tree: &AirTree, edit: &Edit) -> bool
     ensures { result ≡ suits_leaf (is_leaf tree.now edit.now.section) edit.now.change }
 {
@@ -64,7 +64,7 @@ fn suits_leaf(tree: &AirTree, edit: &Edit) -> bool
     }
 }
 
-// Whether the list has the size, where a preset is given.
+/// Whether the list has the size, where a preset is given.
 fn suits_list(alloc: Global, sizes: &Sizes, list: &Name, change: &Change) -> Result<bool, NoMemory>
     ensures { IfOk result (λ suits. suits ≡ suits_list sizes.now list.now change.now) }
 {
@@ -74,7 +74,7 @@ fn suits_list(alloc: Global, sizes: &Sizes, list: &Name, change: &Change) -> Res
     }
 }
 
-// What is said of all sections, with that of the named one changed.
+/// What is said of all sections, with that of the named one changed.
 fn edited_rows(alloc: Global, project: &Project, edit: &Edit) -> Result<List<SectionRow>, NoMemory>
     requires rows { length project.now.sections ≡ section_count project.now.tree }
     requires section { edit.now.section < section_count project.now.tree }
@@ -86,7 +86,7 @@ fn edited_rows(alloc: Global, project: &Project, edit: &Edit) -> Result<List<Sec
     Ok(List::from_vec(rows))
 }
 
-// What is said of a section, with the one field changed.
+/// What is said of a section, with the one field changed.
 fn row_with(change: &Change, row: &SectionRow) -> SectionRow
     ensures { result ≡ row_with change.now row.now }
 {

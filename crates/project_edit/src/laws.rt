@@ -18,8 +18,8 @@ ghost use Rattle.project_edit.specs.Edits.{edited};
 ghost use Rattle.project_edit.specs.Refusals.{edit_refusal};
 ghost use Rattle.project_edit.specs.Touched.{is_changed, touched_in};
 
-/// An edit that isn't refused makes a project of a project; and where every name of the project joins something, so does
-/// every name of the changed one.
+/// An edit that isn't refused makes a project of a project; and where every name of the project joins something, so
+/// does every name of the changed one.
 pub fn an_edited_project_is_a_project()
     ensures project { (p : ProjectData) (sizes : Catalogue) (e : EditData) → IsProject p → e.section < section_count p.tree
         → IsChange e.change → edit_refusal p sizes e ≡ None → IsProject (edited p e) }
@@ -28,8 +28,8 @@ pub fn an_edited_project_is_a_project()
         → first_broken (joining_rules (edited p e) c) ≡ None }
 {}
 
-/// Of a section that isn't changed, everything is known as before: what its losses come from, what rules are told of it,
-/// its sizes and its neighbour's. Nothing beyond it is changed either.
+/// Of a section that isn't changed, everything is known as before: what its losses come from, what rules are told of
+/// it, its sizes and its neighbour's. Nothing beyond it is changed either.
 pub fn an_untouched_section_is_as_before()
     ensures same { (p : ProjectData) (c : Catalogues) (e : EditData) (s : ℕ) → IsProject p → e.section < section_count p.tree
         → s < section_count p.tree → is_changed p.tree e.change e.section s ≡ false

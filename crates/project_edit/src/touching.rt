@@ -38,7 +38,7 @@ pub fn is_touched(tree: &AirTree, edit: &Edit, is_cap_kept: bool, s: u32) -> boo
     !is_cap_kept || is_changed(tree, &edit.change, edit.section, s)
 }
 
-// Whether a change of section `x` changes the pairs of section `s`, or of a section beyond it.
+/// Whether a change of section `x` changes the pairs of section `s`, or of a section beyond it.
 fn is_changed(tree: &AirTree, change: &Change, x: u32, s: u32) -> bool
     requires named { x < section_count tree.now }
     requires section { s < section_count tree.now }
@@ -50,7 +50,7 @@ fn is_changed(tree: &AirTree, change: &Change, x: u32, s: u32) -> bool
     }
 }
 
-// Whether the neighbour of section `s` stands on the way of section `x` to the fan.
+/// Whether the neighbour of section `s` stands on the way of section `x` to the fan.
 fn is_next_to_way(tree: &AirTree, x: u32, s: u32) -> bool
     requires named { x < section_count tree.now }
     requires section { s < section_count tree.now }
@@ -62,7 +62,7 @@ fn is_next_to_way(tree: &AirTree, x: u32, s: u32) -> bool
     }
 }
 
-// Whether section `s` stands on the way of section `x` to the fan.
+/// Whether section `s` stands on the way of section `x` to the fan.
 fn is_on_way(tree: &AirTree, x: u32, s: u32) -> bool
     requires { x < section_count tree.now }
     ensures { result ≡ is_on_way tree.now x s }
@@ -78,7 +78,7 @@ fn is_on_way(tree: &AirTree, x: u32, s: u32) -> bool
     false
 }
 
-// Neighbours stand earlier. The call does nothing: a proof learns its clause where the call stands.
+/// Neighbours stand earlier. The call does nothing: a proof learns its clause where the call stands.
 fn tree_is_valid(tree: &AirTree)
     ensures { IsTree tree.now }
 {
